@@ -1,0 +1,4 @@
+pub mod Ordinals
+pub mod Patterns
+pub mod Vectors
+pub mod Audits

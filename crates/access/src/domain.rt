@@ -1,0 +1,22 @@
+// Domain numbers: special domains are below zero, user domains count from 1.
+ghost use mathlib.Core.Path.{_≡_};
+ghost use Rattle.access.specs.Patterns.{ordinalOf};
+
+pub const KERNEL_DOMAIN: i32 = -1;
+
+// The owner of what belongs to no domain.
+pub const NO_DOMAIN: i32 = -2;
+
+// A number from 1 to the limit, as it is; 0 of any other. The sign is tested before the cast.
+pub fn ordinal(number: i32, limit: usize) -> usize
+    ensures { λ r. ⌜ r ≡ ordinalOf number limit ⌝ }
+{
+    if number < 1 {
+        return 0;
+    }
+    let n = number as usize;
+    if limit < n {
+        return 0;
+    }
+    n
+}

@@ -1,0 +1,9 @@
+pub mod Lists
+pub mod Cases
+pub mod Cover
+pub mod Queues
+pub mod Steps
+pub mod Sound
+pub mod Table
+pub mod Demand3
+pub mod Turns

@@ -1,0 +1,178 @@
+-- Laws of the list functions of Core, once for all
+use mathlib.Core.Path.{_≡_, refl, sym, ap, _∙_, subst}
+use mathlib.Core.Logic.{_≢_}
+use mathlib.Core.Bool.{Bool, true, false, not, _&&_, _||_}
+use mathlib.Core.List.{List, [], _∷_, _++_, map, append-assoc, append-nil}
+use Prim.Native.Nat.{ℕ, zero, suc, _+_, _≤_, _<_}
+use native.Mathlib.Omega.{arith}
+use lib.ListN.{length, getD, set}
+use lib.Seq.{getD-set-same, getD-set-other}
+use lib.Dec.{eqb, ltb, leb, T, eqb→eq, eqb-refl, leb→le}
+pub use Rattle.model.specs.Conditions.{Distinct}
+use Rattle.model.specs.Answers.{Released}
+use Rattle.model.specs.History.{without}
+use Rattle.model.specs.Lists.{at, put, consIf, keep, only, All}
+use Rattle.model.specs.State.{Waiter, Place, Side, sameSide, place}
+use Rattle.model.specs.Waits.{isOther, absent, standsAt}
+
+-- ---- tests
+pub eq-of : (m n : ℕ) → eqb m n ≡ true → m ≡ n
+eq-of m n h = eqb→eq m n (rw h tt)
+
+pub eqb-same : (n : ℕ) → eqb n n ≡ true
+eqb-same n = go (eqb n n) (eqb-refl n)
+  where
+    go : (b : Bool) → T b → b ≡ true
+    go true h = refl
+    go false h = absurd h
+
+pub no-both : {b : Bool} → b ≡ true → b ≡ false → ⊥
+no-both p q = subst (λ (b : Bool). T b) (sym p ∙ q) tt
+
+pub ne-of : (m n : ℕ) → eqb m n ≡ false → m ≢ n
+ne-of m n h e = no-both (eqb-same n) (rw e at h)
+
+pub eqb-no : (m n : ℕ) → m ≢ n → eqb m n ≡ false
+eqb-no m n h = go (eqb m n) refl
+  where
+    go : (b : Bool) → eqb m n ≡ b → b ≡ false
+    go true e = absurd (h (eq-of m n e))
+    go false e = refl
+
+pub eqb-sym : (m n : ℕ) → eqb m n ≡ eqb n m
+eqb-sym m n = go (eqb m n) refl
+  where
+    go : (b : Bool) → eqb m n ≡ b → b ≡ eqb n m
+    go true e = rw (eq-of m n e) (sym (eqb-same n))
+    go false e = sym (eqb-no n m (λ p. ne-of m n e (sym p)))
+
+pub and-left : (a b : Bool) → a && b ≡ true → a ≡ true
+and-left true b h = refl
+and-left false b h = h
+
+pub and-right : (a b : Bool) → a && b ≡ true → b ≡ true
+and-right true b h = h
+and-right false b h = absurd (no-both h refl)
+
+pub both : {a b : Bool} → a ≡ true → b ≡ true → a && b ≡ true
+both {a} {b} p q = rw (p, q) refl
+
+-- ---- numbered lists
+module _ {A : Type 0} where
+  pub at-put-same : (d : A) (l : List A) (i : ℕ) (x : A) → i ≢ 0 → i ≤ length l → at d (put l i x) i ≡ x
+  at-put-same d l zero x h k = absurd (h refl)
+  at-put-same d l (suc i) x h k = getD-set-same l i x d k
+
+  pub at-put-other : (d : A) (l : List A) (i j : ℕ) (x : A) → j ≢ i → at d (put l i x) j ≡ at d l j
+  at-put-other d l zero j x h = refl
+  at-put-other d l (suc i) zero x h = refl
+  at-put-other d l (suc i) (suc j) x h = getD-set-other l i j x d (λ e. h (ap suc e))
+
+  -- a field that the new element has from the old one stays, everywhere
+  getD-set-keep : {B : Type 0} (f : A → B) (d : A) (l : List A) (i j : ℕ) (x : A) → f x ≡ f (getD l i d) → f (getD (set l i x) j d) ≡ f (getD l j d)
+  getD-set-keep f d [] i j x h = refl
+  getD-set-keep f d (y ∷ l) zero zero x h = h
+  getD-set-keep f d (y ∷ l) zero (suc j) x h = refl
+  getD-set-keep f d (y ∷ l) (suc i) zero x h = refl
+  getD-set-keep f d (y ∷ l) (suc i) (suc j) x h = getD-set-keep f d l i j x h
+
+  pub at-put-keep : {B : Type 0} (f : A → B) (d : A) (l : List A) (i j : ℕ) (x : A) → f x ≡ f (at d l i) → f (at d (put l i x) j) ≡ f (at d l j)
+  at-put-keep f d l zero j x h = refl
+  at-put-keep f d l (suc i) zero x h = refl
+  at-put-keep f d l (suc i) (suc j) x h = getD-set-keep f d l i j x h
+
+-- ---- keep
+module _ {A : Type 0} where
+  pub consIf-append : (b : Bool) (x : A) (l m : List A) → consIf b x l ++ m ≡ consIf b x (l ++ m)
+  consIf-append true x l m = refl
+  consIf-append false x l m = refl
+
+  pub keep-append : (p : A → Bool) (l m : List A) → keep p (l ++ m) ≡ keep p l ++ keep p m
+  keep-append p [] m = refl
+  keep-append p (x ∷ l) m = ap (consIf (p x) x) (keep-append p l m) ∙ sym (consIf-append (p x) x (keep p l) (keep p m))
+
+  pub keep-comm : (p r : A → Bool) (l : List A) → keep p (keep r l) ≡ keep r (keep p l)
+  keep-comm p r [] = refl
+  keep-comm p r (x ∷ l) = go (p x) (r x) refl refl (keep-comm p r l)
+    where
+      go : (b c : Bool) → p x ≡ b → r x ≡ c → keep p (keep r l) ≡ keep r (keep p l) → keep p (consIf c x (keep r l)) ≡ keep r (consIf b x (keep p l))
+      go true true hb hc e = rw (hb, hc) (ap (λ (m : List A). x ∷ m) e)
+      go true false hb hc e = rw hc e
+      go false true hb hc e = rw hb e
+      go false false hb hc e = e
+
+-- ---- claims about every element
+module _ {A : Type 0} (P : A → Type 0) where
+  pub all-keep : (p : A → Bool) (l : List A) → All P l → All P (keep p l)
+  all-keep p [] h = tt
+  all-keep p (x ∷ l) h = go (p x) (all-keep p l (h .1))
+    where
+      go : (b : Bool) → All P (keep p l) → All P (consIf b x (keep p l))
+      go true k = (h .0, k)
+      go false k = k
+
+  pub all-snoc : (l : List A) (x : A) → All P l → P x → All P (l ++ (x ∷ []))
+  all-snoc [] x h k = (k, tt)
+  all-snoc (y ∷ l) x h k = (h .0, all-snoc l x (h .1) k)
+
+  pub all-put : (l : List A) (n : ℕ) (x : A) → All P l → P x → All P (put l n x)
+  all-put l zero x h k = h
+  all-put [] (suc n) x h k = tt
+  all-put (y ∷ l) (suc zero) x h k = (k, h .1)
+  all-put (y ∷ l) (suc (suc n)) x h k = (h .0, all-put l (suc n) x (h .1) k)
+
+-- ---- waiting tasks
+
+pub absent-keep : (p : Waiter → Bool) (t : ℕ) (l : List Waiter) → absent t l ≡ true → absent t (keep p l) ≡ true
+absent-keep p t [] h = refl
+absent-keep p t (x ∷ l) h = go (p x) (absent-keep p t l (and-right (isOther t x) (absent t l) h))
+  where
+    go : (b : Bool) → absent t (keep p l) ≡ true → absent t (consIf b x (keep p l)) ≡ true
+    go true k = both (and-left (isOther t x) (absent t l) h) k
+    go false k = k
+
+pub absent-append : (t : ℕ) (l m : List Waiter) → absent t l ≡ true → absent t m ≡ true → absent t (l ++ m) ≡ true
+absent-append t [] m h k = k
+absent-append t (x ∷ l) m h k = both (and-left (isOther t x) (absent t l) h) (absent-append t l m (and-right (isOther t x) (absent t l) h) k)
+
+pub keep-absent : (t : ℕ) (l : List Waiter) → absent t l ≡ true → keep (isOther t) l ≡ l
+keep-absent t [] h = refl
+keep-absent t (x ∷ l) h = rw (and-left (isOther t x) (absent t l) h) (ap (λ (m : List Waiter). x ∷ m) (keep-absent t l (and-right (isOther t x) (absent t l) h)))
+
+pub distinct-keep : (p : Waiter → Bool) (l : List Waiter) → Distinct l → Distinct (keep p l)
+distinct-keep p [] d = tt
+distinct-keep p (x ∷ l) d = go (p x) (distinct-keep p l (d .1))
+  where
+    go : (b : Bool) → Distinct (keep p l) → Distinct (consIf b x (keep p l))
+    go true k = (absent-keep p (x .task) l (d .0), k)
+    go false k = k
+
+pub isOther-sym : (x e : Waiter) → isOther (x .task) e ≡ isOther (e .task) x
+isOther-sym x e = ap not (eqb-sym (x .task) (e .task))
+
+pub distinct-snoc : (l : List Waiter) (e : Waiter) → Distinct l → absent (e .task) l ≡ true → Distinct (l ++ (e ∷ []))
+distinct-snoc [] e d h = (refl, tt)
+distinct-snoc (x ∷ l) e d h = (
+  absent-append (x .task) l (e ∷ []) (d .0) (both (isOther-sym x e ∙ and-left (isOther (e .task) x) (absent (e .task) l) h) refl),
+  distinct-snoc l e (d .1) (and-right (isOther (e .task) x) (absent (e .task) l) h),
+)
+
+pub keep-head : (e : Waiter) (l : List Waiter) → Distinct (e ∷ l) → keep (isOther (e .task)) (e ∷ l) ≡ l
+keep-head e l d = rw (eqb-same (e .task)) (keep-absent (e .task) l (d .0))
+
+-- ---- the first at a place leaves
+pub leave-same : (p : Waiter → Bool) (w : List Waiter) {e : Waiter} {l : List Waiter} → Distinct w → keep p w ≡ e ∷ l → keep p (keep (isOther (e .task)) w) ≡ l
+leave-same p w {e} {l} d h = keep-comm p (isOther (e .task)) w ∙ ap (keep (isOther (e .task))) h ∙ keep-head e l (rw h at (distinct-keep p w d))
+
+pub away : (p r : Waiter → Bool) (w : List Waiter) {e : Waiter} {l : List Waiter} → Distinct w → ((x : Waiter) → p x ≡ true → r x ≡ false) → keep p w ≡ e ∷ l → absent (e .task) (keep r w) ≡ true
+away p r [] d f h = refl
+away p r (x ∷ w) {e} {l} d f h = go (p x) (r x) refl refl h (away p r w (d .1) f)
+  where
+    go : (b c : Bool) → p x ≡ b → r x ≡ c → consIf b x (keep p w) ≡ e ∷ l → (keep p w ≡ e ∷ l → absent (e .task) (keep r w) ≡ true) → absent (e .task) (consIf c x (keep r w)) ≡ true
+    go true true hb hc k ih = absurd (no-both hc (f x hb))
+    go true false hb hc k ih = let z : x ≡ e = cc in rw z at (absent-keep r (x .task) w (d .0))
+    go false true hb hc k ih = both (isOther-sym e x ∙ and-left (isOther (x .task) e) (absent (x .task) l) (rw k at (absent-keep p (x .task) w (d .0)))) (ih k)
+    go false false hb hc k ih = ih k
+
+pub leave-other : (p r : Waiter → Bool) (w : List Waiter) {e : Waiter} {l : List Waiter} → Distinct w → ((x : Waiter) → p x ≡ true → r x ≡ false) → keep p w ≡ e ∷ l → keep r (keep (isOther (e .task)) w) ≡ keep r w
+leave-other p r w {e} {l} d f h = keep-comm r (isOther (e .task)) w ∙ keep-absent (e .task) (keep r w) (away p r w d f h)

@@ -1,0 +1,186 @@
+-- Fresh, entries and closing give sound states. Assumes nothing.
+use mathlib.Core.Path.{_≡_, refl, sym, ap, _∙_, subst}
+use mathlib.Core.Logic.{_≢_, _⊎_, inl, inr}
+use mathlib.Core.Bool.{Bool, true, false, not, _&&_, _||_}
+use mathlib.Core.List.{List, [], _∷_, _++_, map}
+use mathlib.Core.Option.{Option, none, some}
+use Prim.Native.Nat.{ℕ, zero, suc, _+_, _≤_, _<_}
+use native.Mathlib.Omega.{arith}
+use lib.ListN.{length, length-append}
+use lib.Dec.{eqb, ltb, leb, T, ltb→lt, leb→le}
+use lib.IntN.{ℤ, pos, negsuc}
+use Rattle.itron.specs.Codes.{Err}
+use Rattle.model.specs.Answers.{Out, refuseIf}
+use Rattle.model.specs.Conditions.{BufferFits, WaitsFit, QueuesFit, RegionsFit, Bounded, Ascending, Fit, Within, Spent, QueueOk, qviewOf, Sound}
+use Rattle.model.specs.Lists.{at, keep, All}
+use Rattle.model.specs.Queues.{wordsUsed}
+use Rattle.model.specs.State.{Waiter, Sem, Queue, Region, State, Vector, noSem, noQueue, semAt, queueAt, place, sending, receiving}
+use Rattle.model.specs.Waits.{standsAt}
+use Rattle.model.specs.Table.{Entry, task, sem, queue, region, hasRoom, domainOk, attributeOk, numbersOk, placeOk, memoryOk, checkEntry, newSem, newQueue, newRegion, add, enterBy, enter, emptyState, freshBy, fresh, shut, closeBy, close}
+use Rattle.access.specs.Vectors.{resolved}
+use Rattle.itron.specs.Limits.{maxTasks, maxSemaphores, maxQueues, maxRegions, maxWords, maxCount, maxDomains, addressEnd}
+use Rattle.model.specs.Regions.{end, lastEnd}
+use Rattle.model.proofs.Lists.{and-left, and-right, no-both, all-snoc}
+
+lt-of : (m n : ℕ) → ltb m n ≡ true → m < n
+lt-of m n h = ltb→lt m n (rw h tt)
+
+le-of : (m n : ℕ) → leb m n ≡ true → m ≤ n
+le-of m n h = leb→le m n (rw h tt)
+
+pass : (b : Bool) (e : Err) (r : Option Err) → refuseIf (not b) e r ≡ none → (b ≡ true) × (r ≡ none)
+pass false e r h = absurd (let z : _≡_ {A = Bool} true false = cc in no-both {b = true} refl z)
+pass true e r h = (refl, h)
+
+open-of : (b : Bool) (e : Err) (r : Option Err) → refuseIf b e r ≡ none → (b ≡ false) × (r ≡ none)
+open-of true e r h = absurd (let z : _≡_ {A = Bool} true false = cc in no-both {b = true} refl z)
+open-of false e r h = (refl, h)
+
+-- what a taken waiter has passed
+pub record Taken (s : State) (i : Entry) : Type 0 where
+  pub opened : s .fixed .closed ≡ false
+  pub room : hasRoom s i ≡ true
+  pub numbers : numbersOk i ≡ true
+  pub place : placeOk s i ≡ true
+  pub memory : memoryOk s i ≡ true
+
+pub taken : (s : State) (i : Entry) → checkEntry s i ≡ none → Taken s i
+taken s i h =
+    let h₁ = open-of (s .fixed .closed) _ _ h in
+    let h₂ = pass (hasRoom s i) _ _ (h₁ .1) in
+    let h₃ = pass (domainOk (s .fixed .count) i) _ _ (h₂ .1) in
+    let h₄ = pass (attributeOk i) _ _ (h₃ .1) in
+    let h₅ = pass (numbersOk i) _ _ (h₄ .1) in
+    let h₆ = pass (placeOk s i) _ _ (h₅ .1) in
+    let h₇ = pass (memoryOk s i) _ _ (h₆ .1) in
+    record { opened = h₁ .0; room = h₂ .0; numbers = h₅ .0; place = h₆ .0; memory = h₇ .0 }
+
+all-of : {A : Type 0} (P : A → Type 0) (d : A) (l : List A) (x : A) → P d → P x → ((i : ℕ) → P (at d l i)) → (i : ℕ) → P (at d (l ++ (x ∷ [])) i)
+all-of P d l x z k h zero = z
+all-of P d [] x z k h (suc zero) = k
+all-of P d [] x z k h (suc (suc i)) = z
+all-of P d (y ∷ l) x z k h (suc zero) = h 1
+all-of P d (y ∷ l) x z k h (suc (suc i)) = all-of P d l x z k (λ j. next j) (suc i)
+  where
+    next : (j : ℕ) → P (at d l j)
+    next zero = z
+    next (suc j) = h (suc (suc j))
+
+used-snoc : (l : List Queue) (q : Queue) → wordsUsed (l ++ (q ∷ [])) ≡ wordsUsed l + q .capacity
+used-snoc [] q = omega arith
+used-snoc (x ∷ l) q = let e = used-snoc l q in omega arith
+
+-- a state in which nobody waits
+module _ (s : State) (w : s .waits ≡ []) where
+  pub still-spent : (i : ℕ) → Spent s i
+  still-spent i = inl (rw w refl)
+
+  pub still-fine : (q : ℕ) → QueueOk (qviewOf s q)
+  still-fine q = record { idle = inl (rw w refl); full = inl (rw w refl) }
+
+-- a region that starts at or above the end of the last one
+ascending-snoc : (l : List Region) (r : Region) → Ascending l → lastEnd l ≤ r .base → Ascending (l ++ (r ∷ []))
+ascending-snoc [] r a h = tt
+ascending-snoc (x ∷ []) r a h = (h, tt)
+ascending-snoc (x ∷ (y ∷ l)) r a h = (a .0, ascending-snoc (y ∷ l) r (a .1) h)
+
+sound-add : (s : State) (i : Entry) → Sound s → Taken s i → Sound (add s i)
+sound-add s (task d) k t =
+    let w = k .quiet (t .opened) in
+    let f = k .fit in
+    let r = lt-of (length (s .fixed .domains)) maxTasks (t .room) in
+    let a = length-append (s .fixed .domains) (d ∷ []) in
+    record {
+      fit = record { waits = record { tasks = omega arith; distinct = f .waits .distinct; known = rw w tt; plain = f .waits .plain }; sems = f .sems; queues = f .queues; regions = f .regions };
+      within = k .within;
+      spent = k .spent;
+      fine = k .fine;
+      quiet = k .quiet;
+    }
+sound-add s (sem d a b m v) k t =
+    let w = k .quiet (t .opened) in
+    let f = k .fit in
+    let r = lt-of (length (s .sems)) maxSemaphores (t .room) in
+    let x = newSem d a b m v in
+    let n = length-append (s .sems) (x ∷ []) in
+    record {
+      fit = record { waits = f .waits; sems = omega arith; queues = f .queues; regions = f .regions };
+      within = all-of (λ (y : Sem). y .count ≤ y .max) noSem (s .sems) x (omega arith) (le-of b m (and-right (leb 1 m && leb m maxCount) (leb b m) (t .numbers))) (k .within);
+      spent = still-spent (add s (sem d a b m v)) w;
+      fine = k .fine;
+      quiet = k .quiet;
+    }
+sound-add s (queue d a c v) k t =
+    let w = k .quiet (t .opened) in
+    let f = k .fit .queues in
+    let r = lt-of (length (s .queues)) maxQueues (t .room) in
+    let x = newQueue d a c v in
+    let n = length-append (s .queues) (x ∷ []) in
+    let u = used-snoc (s .queues) x in
+    let l = le-of (wordsUsed (s .queues) + c) maxWords (t .memory) in
+    record {
+      fit = record { waits = k .fit .waits; sems = k .fit .sems; queues = record { few = omega arith; words = omega arith; buffers = all-snoc BufferFits (s .queues) x (f .buffers) (omega arith) }; regions = k .fit .regions };
+      within = k .within;
+      spent = k .spent;
+      fine = still-fine (add s (queue d a c v)) w;
+      quiet = k .quiet;
+    }
+sound-add s (region d a b z v) k t =
+    let f = k .fit .regions in
+    let rs = s .fixed .regions in
+    let r = lt-of (length rs) maxRegions (t .room) in
+    let x = newRegion d a b z v in
+    let n = length-append rs (x ∷ []) in
+    let p = le-of 1 z (and-left (leb 1 z) (leb (b + z) addressEnd) (t .numbers)) in
+    let q = le-of (b + z) addressEnd (and-right (leb 1 z) (leb (b + z) addressEnd) (t .numbers)) in
+    record {
+      fit = record { waits = k .fit .waits; sems = k .fit .sems; queues = k .fit .queues; regions = record { few = omega arith; bounded = all-snoc Bounded rs x (f .bounded) (p, q); ascending = ascending-snoc rs x (f .ascending) (le-of (lastEnd rs) b (t .place)) } };
+      within = k .within;
+      spent = k .spent;
+      fine = k .fine;
+      quiet = k .quiet;
+    }
+
+pub sound-enter : (s : State) (i : Entry) → Sound s → Sound (enter s i .state)
+unfolding enter
+sound-enter s i k = go (checkEntry s i) refl
+  where
+    go : (o : Option Err) → checkEntry s i ≡ o → Sound (enterBy s i o .state)
+    go (some e) h = k
+    go none h = sound-add s i k (taken s i h)
+
+pub sound-empty : (n : ℕ) → Sound (emptyState n)
+sound-empty n = record {
+  fit = record { waits = record { tasks = omega arith; distinct = tt; known = tt; plain = tt }; sems = omega arith; queues = record { few = omega arith; words = omega arith; buffers = tt }; regions = record { few = omega arith; bounded = tt; ascending = tt } };
+  within = λ i. none-at i;
+  spent = λ i. inl refl;
+  fine = λ q. record { idle = inl refl; full = inl refl };
+  quiet = λ h. refl;
+}
+  where
+    none-at : (i : ℕ) → at noSem [] i .count ≤ at noSem [] i .max
+    none-at zero = omega arith
+    none-at (suc i) = omega arith
+
+pub sound-fresh : (n : ℤ) → Sound (fresh n .state)
+unfolding fresh
+sound-fresh (negsuc n) = sound-empty 0
+sound-fresh (pos n) = go (leb n maxDomains)
+  where
+    go : (b : Bool) → Sound (freshBy b n .state)
+    go true = sound-empty n
+    go false = sound-empty 0
+
+pub sound-close : (s : State) → Sound s → Sound (close s .state)
+unfolding close
+sound-close s k = go (s .fixed .closed)
+  where
+    go : (b : Bool) → Sound (closeBy b s .state)
+    go true = k
+    go false = record {
+      fit = record { waits = k .fit .waits; sems = k .fit .sems; queues = k .fit .queues; regions = k .fit .regions };
+      within = k .within;
+      spent = k .spent;
+      fine = k .fine;
+      quiet = λ h. absurd (no-both {b = true} refl h);
+    }

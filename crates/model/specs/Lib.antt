@@ -1,0 +1,14 @@
+pub mod Lists
+pub mod State
+pub mod Answers
+pub mod Waits
+pub mod Semaphores
+pub mod Queues
+pub mod Regions
+pub mod Table
+pub mod Verdict
+pub mod Calls
+pub mod Conditions
+pub mod History
+pub mod Demand3
+pub mod Turns

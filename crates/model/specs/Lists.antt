@@ -1,0 +1,36 @@
+-- Lists whose elements are numbered from 1, and choosing from lists. Definitions only.
+use mathlib.Core.Bool.{Bool, true, false}
+use mathlib.Core.List.{List, [], _∷_}
+use Prim.Native.Nat.{ℕ, zero, suc}
+use lib.ListN.{getD, set}
+
+module _ {A : Type 0} where
+  -- the element with a number; d where there is none
+  abbrev pub at : A → List A → ℕ → A
+  at d l zero = d
+  at d l (suc i) = getD l i d
+
+  -- the list with another element under a number
+  abbrev pub put : List A → ℕ → A → List A
+  put l zero x = l
+  put l (suc i) x = set l i x
+
+  -- an element in front, where the test holds
+  abbrev pub consIf : Bool → A → List A → List A
+  consIf true x l = x ∷ l
+  consIf false x l = l
+
+  -- the elements that pass a test, in their order
+  abbrev pub keep : (A → Bool) → List A → List A
+  keep p [] = []
+  keep p (x ∷ l) = consIf (p x) x (keep p l)
+
+  -- the list where the test holds, else nothing
+  abbrev pub only : Bool → List A → List A
+  only true l = l
+  only false l = []
+
+  -- a claim about every element
+  abbrev pub All : (A → Type 0) → List A → Type 0
+  All P [] = Unit
+  All P (x ∷ l) = P x × All P l

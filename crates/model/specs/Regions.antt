@@ -1,0 +1,102 @@
+-- Memory regions and the memory verdict (document 01, "Building the table", "The memory verdict"). Definitions only.
+use mathlib.Core.Bool.{Bool, true, false, not, _&&_, _||_}
+use mathlib.Core.List.{List, [], _∷_}
+use mathlib.Core.Option.{Option, none, some}
+use Prim.Native.Nat.{ℕ, zero, suc, _+_}
+use lib.Dec.{eqb, leb, ltb}
+use lib.IntN.{ℤ}
+use Rattle.access.specs.Patterns.{admitted, bitAt}
+use Rattle.itron.specs.Codes.{Err, ePar, eNoexs, eObj, eMacv}
+use Rattle.itron.specs.Limits.{addressEnd}
+use Rattle.model.specs.State.{Region}
+use Rattle.model.specs.Answers.{refuseIf}
+
+-- the first address past a region
+abbrev pub end : Region → ℕ
+end r = r .base + r .size
+
+-- ---- the entry
+-- 4. region attribute bits other than 1 (no-write) and 4 (execute): E_RSATR
+abbrev pub attributeOk : ℕ → Bool
+attributeOk a = eqb a 0 || eqb a 1 || eqb a 4 || eqb a 5
+
+-- 5. region size at least 1 and base + size at most 2^32
+abbrev pub numbersOk : ℕ → ℕ → Bool
+numbersOk base size = leb 1 size && leb (base + size) addressEnd
+
+-- the end of the region entered last, 0 where there is none
+abbrev pub lastEnd : List Region → ℕ
+lastEnd [] = 0
+lastEnd (r ∷ []) = end r
+lastEnd (r ∷ (x ∷ l)) = lastEnd (x ∷ l)
+
+-- 6. a region starting below the end of the region entered before it: E_OBJ
+abbrev pub placeOk : List Region → ℕ → Bool
+placeOk rs base = leb (lastEnd rs) base
+
+-- ---- the verdict
+-- the attribute bits: no-write (1) and execute (4)
+abbrev pub isNoWrite : Region → Bool
+isNoWrite r = bitAt (r .attribute) 0
+
+abbrev pub isExecutable : Region → Bool
+isExecutable r = bitAt (r .attribute) 2
+
+-- wishes out of write (bit value 1), read (2), execute (4): at least one of these and no other
+abbrev pub wishesOk : ℕ → Bool
+wishesOk w = leb 1 w && leb w 7
+
+abbrev pub wantsWrite : ℕ → Bool
+wantsWrite w = bitAt w 0
+
+abbrev pub wantsRead : ℕ → Bool
+wantsRead w = bitAt w 1
+
+abbrev pub wantsExecute : ℕ → Bool
+wantsExecute w = bitAt w 2
+
+-- write follows normal operation 1; no-write denies writing to every domain, the kernel's too
+abbrev pub mayWrite : Region → ℤ → Bool
+mayWrite r d = not (isNoWrite r) && admitted (r .vector .normal1) d
+
+-- read follows normal operation 2
+abbrev pub mayRead : Region → ℤ → Bool
+mayRead r d = admitted (r .vector .normal2) d
+
+-- execute follows normal operation 2 and also needs the execute attribute
+abbrev pub mayExecute : Region → ℤ → Bool
+mayExecute r d = isExecutable r && admitted (r .vector .normal2) d
+
+-- a wish that is not there is granted
+abbrev pub grants : Bool → Bool → Bool
+grants true may = may
+grants false may = true
+
+abbrev pub allows : Region → ℤ → ℕ → Bool
+allows r d w = grants (wantsWrite w) (mayWrite r d) && grants (wantsRead w) (mayRead r d) && grants (wantsExecute w) (mayExecute r d)
+
+-- whether a region holds an address
+abbrev pub holds : ℕ → Region → Bool
+holds a r = leb (r .base) a && ltb a (end r)
+
+abbrev pub orElse : Bool → Region → Option Region → Option Region
+orElse true r o = some r
+orElse false r o = o
+
+-- the region that holds an address, if there is one
+unfoldable pub holder : List Region → ℕ → Option Region
+holder [] a = none
+holder (r ∷ rs) a = orElse (holds a r) r (holder rs a)
+
+-- no region holds the base: E_NOEXS; the area leaves that region: E_OBJ; a wish denied: E_MACV
+abbrev pub judgeIn : Option Region → ℤ → ℕ → ℕ → ℕ → Option Err
+judgeIn none d base size w = some eNoexs
+judgeIn (some r) d base size w = refuseIf (not (leb (base + size) (end r))) eObj (refuseIf (not (allows r d w)) eMacv none)
+
+-- size 0, unknown or no wish, base + size above 2^32: E_PAR
+abbrev pub areaOk : ℕ → ℕ → ℕ → Bool
+areaOk base size w = leb 1 size && wishesOk w && leb (base + size) addressEnd
+
+-- the verdict on a closed table for a known domain
+unfoldable pub judge : List Region → ℤ → ℕ → ℕ → ℕ → Option Err
+judge rs d base size w = refuseIf (not (areaOk base size w)) ePar (judgeIn (holder rs base) d base size w)

@@ -1,0 +1,96 @@
+-- What the core holds (document 01, "What the core holds"). Definitions only.
+use mathlib.Core.Bool.{Bool, true, false, _&&_}
+use mathlib.Core.List.{List, []}
+use Prim.Native.Nat.{ℕ, zero, suc}
+use lib.Dec.{eqb}
+use lib.IntN.{ℤ, pos}
+pub use Rattle.access.specs.declared.vector.Vector.{Vector}
+pub use Rattle.model.specs.declared.Semaphore.{Semaphore as Sem}
+pub use Rattle.model.specs.declared.Side.{Side}
+pub use Rattle.model.specs.declared.Side.the-variants.{OnSem as onSem, Receiving as receiving, Sending as sending}
+use Rattle.access.specs.Vectors.{uniform}
+use Rattle.model.specs.Lists.{at}
+
+-- a data queue, its buffered words the oldest first
+pub record Queue : Type 0 where
+  pub domain : ℤ
+  pub attribute : ℕ
+  pub capacity : ℕ
+  pub buffer : List ℕ
+  pub vector : Vector
+
+-- a memory region
+pub record Region : Type 0 where
+  pub domain : ℤ
+  pub attribute : ℕ
+  pub base : ℕ
+  pub size : ℕ
+  pub vector : Vector
+
+-- where a task waits: for the semaphore, to receive from the queue or to send to the queue of that number
+pub record Place : Type 0 where
+  pub side : Side
+  pub number : ℕ
+
+-- a waiting task: its number, where it waits, and the word that it sends (0 if it sends none)
+pub record Waiter : Type 0 where
+  pub task : ℕ
+  pub place : Place
+  pub word : ℕ
+
+-- what no call changes: whether the table is closed, the number n of user domains, each task's domain, the regions
+pub record Fixed : Type 0 where
+  pub closed : Bool
+  pub count : ℕ
+  pub domains : List ℤ
+  pub regions : List Region
+
+-- the state; `waits` has all waiting tasks in the order in which they began to wait, and a task that is not there is ready
+pub record State : Type 0 where
+  pub fixed : Fixed
+  pub waits : List Waiter
+  pub sems : List Sem
+  pub queues : List Queue
+
+-- ---- objects by number; what has no such number is all zeros
+abbrev pub zeroVector : Vector
+zeroVector = uniform 0
+
+abbrev pub noSem : Sem
+noSem = record { domain = pos zero; attribute = 0; max = 0; count = 0; vector = zeroVector }
+
+abbrev pub noQueue : Queue
+noQueue = record { domain = pos zero; attribute = 0; capacity = 0; buffer = []; vector = zeroVector }
+
+abbrev pub noRegion : Region
+noRegion = record { domain = pos zero; attribute = 0; base = 0; size = 0; vector = zeroVector }
+
+abbrev pub semAt : State → ℕ → Sem
+semAt s i = at noSem (s .sems) i
+
+abbrev pub queueAt : State → ℕ → Queue
+queueAt s q = at noQueue (s .queues) q
+
+abbrev pub domainAt : State → ℕ → ℤ
+domainAt s t = at (pos zero) (s .fixed .domains) t
+
+-- ---- places
+abbrev pub place : Side → ℕ → Place
+place d n = record { side = d; number = n }
+
+abbrev pub sameSide : Side → Side → Bool
+sameSide onSem onSem = true
+sameSide onSem receiving = false
+sameSide onSem sending = false
+sameSide receiving onSem = false
+sameSide receiving receiving = true
+sameSide receiving sending = false
+sameSide sending onSem = false
+sameSide sending receiving = false
+sameSide sending sending = true
+
+abbrev pub samePlace : Place → Place → Bool
+samePlace p r = sameSide (p .side) (r .side) && eqb (p .number) (r .number)
+
+abbrev pub waiter : ℕ → Side → ℕ → ℕ → Waiter
+waiter t d n w = record { task = t; place = place d n; word = w }

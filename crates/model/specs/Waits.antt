@@ -1,0 +1,69 @@
+-- The waiting tasks (document 01, "Calls on an open gateway"). Definitions only.
+use mathlib.Core.Bool.{Bool, true, false, not, _&&_}
+use mathlib.Core.List.{List, [], _∷_, _++_}
+use Prim.Native.Nat.{ℕ, zero, suc}
+use lib.Dec.{eqb}
+use Rattle.model.specs.Lists.{keep}
+use Rattle.model.specs.State.{Place, Waiter, State, samePlace, place, receiving, sending}
+use Rattle.model.specs.Answers.{Released, Answer, Effect, effect, say, refuseIf}
+use Rattle.itron.specs.Codes.{Err, eTmout, ok, waiting, error}
+pub use Rattle.model.specs.declared.Patience.{Patience}
+pub use Rattle.model.specs.declared.Patience.the-variants.{Polling as polling, Forever as forever}
+
+abbrev pub standsAt : Place → Waiter → Bool
+standsAt p e = samePlace p (e .place)
+
+abbrev pub isOther : ℕ → Waiter → Bool
+isOther t e = not (eqb t (e .task))
+
+-- a wait queue: the tasks that wait at a place, first to last
+abbrev pub waitersIn : List Waiter → Place → List Waiter
+waitersIn l p = keep (standsAt p) l
+
+abbrev pub waitersAt : State → Place → List Waiter
+waitersAt s p = waitersIn (s .waits) p
+
+abbrev pub senders : State → ℕ → List Waiter
+senders s q = waitersAt s (place sending q)
+
+abbrev pub receivers : State → ℕ → List Waiter
+receivers s q = waitersAt s (place receiving q)
+
+abbrev pub firstTask : List Waiter → ℕ
+firstTask [] = 0
+firstTask (e ∷ l) = e .task
+
+-- task t does not wait
+abbrev pub absent : ℕ → List Waiter → Bool
+absent t [] = true
+absent t (e ∷ l) = isOther t e && absent t l
+
+-- a released task leaves; a task that begins to wait comes last
+abbrev pub leave : ℕ → List Waiter → List Waiter
+leave t l = keep (isOther t) l
+
+abbrev pub join : Waiter → List Waiter → List Waiter
+join e l = l ++ (e ∷ [])
+
+-- the released task with its word
+abbrev pub freed : Waiter → ℕ → List Released
+freed e w = record { task = e .task; word = w } ∷ []
+
+-- ---- how a call on an object of any kind can end
+module _ {R : Type 0} (ws : List Waiter) (rs : List R) where
+  -- a refusal changes nothing
+  abbrev pub refusal : Err → Effect R
+  refusal e = effect (say (error e) 0 []) ws rs
+
+  -- the caller gets a word, the waiting task e is released with another
+  abbrev pub wakes : Waiter → ℕ → ℕ → Effect R
+  wakes e word handed = effect (say ok word (freed e handed)) (leave (e .task) ws) rs
+
+  -- a poll gives E_TMOUT; otherwise the caller waits, last, and the answer is "waiting"
+  abbrev pub orWaits : Patience → Waiter → Effect R
+  orWaits polling e = refusal eTmout
+  orWaits forever e = effect (say waiting 0 []) (join e ws) rs
+
+-- E_OK with a word, the records changed
+abbrev pub gives : {R : Type 0} → List Waiter → List R → ℕ → Effect R
+gives ws rs word = effect (say ok word []) ws rs
