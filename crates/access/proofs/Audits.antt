@@ -108,19 +108,15 @@ pub report-some : (p n m : ℕ) → n ≤ maxDomains → m ≡ p % 2 ^ n → (m 
 report-some p n m h e z = rw (e, count-mask p n h, lowest-some p n h (λ y. z (e ∙ y)))
 
 -- n below 0, above 32, and from 0 to 32
-module _ (v : Vector) (z : ℤ) where
-  pub audit-below : ltZ z (pos 0) ≡ true → refusedReport ≡ auditOf v z
-  unfolding auditOf
-  audit-below h = go z h
-    where
-      go : (y : ℤ) → ltZ y (pos 0) ≡ true → refusedReport ≡ auditOf v y
-      go (negsuc k) e = refl
-      go (pos k) e = absurd (omega (arith, ltb-true k 0 e))
+pub audit-below : (v : Vector) (z : ℤ) → ltZ z (pos 0) ≡ true → refusedReport ≡ auditOf v z
+unfolding auditOf
+audit-below v (negsuc k) h = refl
+audit-below v (pos k) h = absurd (omega (arith, ltb-true k 0 h))
 
-  pub audit-over : ltZ z (pos 0) ≡ false → maxDomains < natAbs z → refusedReport ≡ auditOf v z
-  unfolding auditOf
-  audit-over h l = rw (not-below z 0 h .0, lt-leb (natAbs z) maxDomains l)
+pub audit-over : (v : Vector) (z : ℤ) → ltZ z (pos 0) ≡ false → maxDomains < natAbs z → refusedReport ≡ auditOf v z
+unfolding auditOf
+audit-over v z h l = rw (not-below z 0 h .0, lt-leb (natAbs z) maxDomains l)
 
-  pub audit-within : ltZ z (pos 0) ≡ false → natAbs z ≤ maxDomains → reportOf v (natAbs z) ≡ auditOf v z
-  unfolding auditOf
-  audit-within h l = rw (not-below z 0 h .0, le-leb (natAbs z) maxDomains l)
+pub audit-within : (v : Vector) (z : ℤ) → ltZ z (pos 0) ≡ false → natAbs z ≤ maxDomains → reportOf v (natAbs z) ≡ auditOf v z
+unfolding auditOf
+audit-within v z h l = rw (not-below z 0 h .0, le-leb (natAbs z) maxDomains l)

@@ -2,3 +2,4 @@ pub mod Ordinals
 pub mod Patterns
 pub mod Vectors
 pub mod Audits
+pub mod Laws

@@ -1,6 +1,5 @@
 -- The audit report (document 01, "Patterns and vectors"). Definitions only.
 use Prim.Native.Nat.{ℕ, zero, suc, _+_}
-use mathlib.Core.Bool.{Bool, true, false}
 use lib.IntN.{ℤ, pos, negsuc}
 use lib.Dec.{leb}
 use Rattle.itron.specs.Limits.{maxDomains}

@@ -3,7 +3,7 @@ use mathlib.Core.Path.{_≡_, refl, sym, ap, _∙_, subst}
 use mathlib.Core.Logic.{_≢_}
 use mathlib.Core.Bool.{Bool, true, false, not, _&&_, _||_}
 use mathlib.Core.List.{List, [], _∷_, _++_, map, append-assoc, append-nil}
-use Prim.Native.Nat.{ℕ, zero, suc, _+_, _≤_, _<_}
+use Prim.Native.Nat.{ℕ, zero, suc, _+_, _-_, _≤_, _<_}
 use native.Mathlib.Omega.{arith}
 use lib.ListN.{length, getD, set}
 use lib.Seq.{getD-set-same, getD-set-other}
@@ -59,6 +59,23 @@ both {a} {b} p q = rw (p, q) refl
 
 -- ---- numbered lists
 module _ {A : Type 0} where
+  -- a number past the list, and one within it by its index
+  getD-past : (d : A) (l : List A) (i : ℕ) → length l ≤ i → getD l i d ≡ d
+  getD-past d [] i h = refl
+  getD-past d (x ∷ l) zero h = absurd (omega arith)
+  getD-past d (x ∷ l) (suc i) h = getD-past d l i (omega arith)
+
+  pub at-past : (d : A) (l : List A) (n : ℕ) → length l < n → d ≡ at d l n
+  at-past d l zero h = refl
+  at-past d l (suc i) h = sym (getD-past d l i (omega arith))
+
+  pub at-zero : (d : A) (l : List A) (n : ℕ) → n ≡ 0 → d ≡ at d l n
+  at-zero d l n h = ap (λ (k : ℕ). at d l k) (sym h)
+
+  pub at-index : (d : A) (l : List A) (n : ℕ) → n ≢ 0 → getD l (n - 1) d ≡ at d l n
+  at-index d l zero h = absurd (h refl)
+  at-index d l (suc i) h = let e : suc i - 1 ≡ i = omega arith in ap (λ (k : ℕ). getD l k d) e
+
   pub at-put-same : (d : A) (l : List A) (i : ℕ) (x : A) → i ≢ 0 → i ≤ length l → at d (put l i x) i ≡ x
   at-put-same d l zero x h k = absurd (h refl)
   at-put-same d l (suc i) x h k = getD-set-same l i x d k

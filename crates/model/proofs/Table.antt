@@ -9,7 +9,7 @@ use native.Mathlib.Omega.{arith}
 use lib.ListN.{length, length-append}
 use lib.Dec.{eqb, ltb, leb, T, ltb→lt, leb→le}
 use lib.IntN.{ℤ, pos, negsuc}
-use Rattle.itron.specs.Codes.{Err}
+use Rattle.itron.specs.Codes.{Err, ok, error}
 use Rattle.model.specs.Answers.{Out, refuseIf}
 use Rattle.model.specs.Conditions.{BufferFits, WaitsFit, QueuesFit, RegionsFit, Bounded, Ascending, Fit, Within, Spent, QueueOk, qviewOf, Sound}
 use Rattle.model.specs.Lists.{at, keep, All}
@@ -184,3 +184,23 @@ sound-close s k = go (s .fixed .closed)
       fine = k .fine;
       quiet = λ h. absurd (no-both {b = true} refl h);
     }
+
+-- ---- a refused entry or closing changes nothing
+done-no : {X : Type 0} {e : Err} → ok ≡ error e → X
+done-no h = absurd (let z : _≡_ {A = ℕ} 0 1 = cc in omega arith)
+
+pub enter-kept : (s : State) (i : Entry) (e : Err) → enter s i .answer .code ≡ error e → enter s i .state ≡ s
+unfolding enter
+enter-kept s i e h = go (checkEntry s i) h
+  where
+    go : (o : Option Err) → enterBy s i o .answer .code ≡ error e → enterBy s i o .state ≡ s
+    go (some x) q = refl
+    go none q = done-no q
+
+pub close-kept : (s : State) (e : Err) → close s .answer .code ≡ error e → close s .state ≡ s
+unfolding close
+close-kept s e h = go (s .fixed .closed) h
+  where
+    go : (b : Bool) → closeBy b s .answer .code ≡ error e → closeBy b s .state ≡ s
+    go true q = refl
+    go false q = done-no q

@@ -78,6 +78,10 @@ releasedOf (x ∷ l) = x
 abbrev pub replyOf : Answer → Reply
 replyOf a = record { outcome = outcomeOf (a .code); word = a .word; released = releasedOf (a .released) }
 
+-- a code and a word, nobody released
+abbrev pub plain : ℤ → ℕ → Reply
+plain z w = record { outcome = Outcome.Code z; word = w; released = nobody }
+
 -- the number of an answer that never waits: a refer, an entry
 abbrev pub codeOf : Code → ℤ
 codeOf ok = okNumber

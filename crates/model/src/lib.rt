@@ -1,4 +1,6 @@
 // The words that the kernel's code, its callers and its rules share (document 01). The rules are in specs/.
+ghost use mathlib.Core.Path.{_≡_};
+ghost use Rattle.model.specs.Answers.{plain};
 use access::vector::Vector;
 
 // What a call answers: a code, or that the caller waits.
@@ -18,6 +20,19 @@ pub struct Reply {
     pub outcome: Outcome,
     pub word: u32,
     pub released: Released,
+}
+
+impl Reply {
+    // A code and a word, nobody released.
+    pub fn plain(code: i32, word: u32) -> Reply
+        ensures { λ r. ⌜ r ≡ plain code word ⌝ }
+    {
+        Reply {
+            outcome: Outcome::Code(code),
+            word,
+            released: Released { task: 0, word: 0 },
+        }
+    }
 }
 
 // The kinds of object that a call names by a number.

@@ -1,5 +1,4 @@
--- `access::ordinal` meets its contract: by the sign, then by the limit. Assumes nothing.
-use lib.Signed.{ltZ, nonNeg}
+-- `access::domain::ordinal` meets its contract: by the sign, then by the limit. Assumes nothing.
 use mir.Facts.{toZ-ofZ, fits-natAbs}
 use Rattle.access.proofs.Ordinals.{ordinal-low, not-below-sign, ordinal-over, ordinal-in}
 use Rattle.access.proofs.domain.ordinal.Statement.{statement}

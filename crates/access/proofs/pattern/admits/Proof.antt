@@ -1,10 +1,11 @@
--- `access::admits` meets its contract: the kernel domain, nobody, a user domain. Assumes nothing.
+-- `access::pattern::admits` meets its contract: the kernel domain, nobody, a user domain. Assumes nothing.
 use native.Mathlib.Omega.{arith}
 use mathlib.Core.Path.{_≡_, sym, ap, _∙_}
 use mir.Syntax.{w32}
 use mir.Val.{toZ, ofZ}
 use mir.Facts.{toZ-ofZ}
 use borrow.Author.Needs.{needs}
+use Rattle.itron.specs.Limits.{maxDomains}
 use Rattle.access.specs.Patterns.{ordinalOf}
 use Rattle.access.proofs.Ordinals.{ordinal-le}
 use Rattle.access.proofs.Patterns.{admitted-kernel, admitted-nobody, admitted-user}
@@ -18,7 +19,7 @@ ordinal-requires : tie.Need-ordinal-requires
 ordinal-requires c κs = search needs
 
 -- what `ordinal` gives, of the domain itself (a signed argument arrives as the machine reads it back)
-user : (c : tie.After-ordinal) → c .ordinal .result ≡ ordinalOf (c .before .before .args .domain) 32
+user : (c : tie.After-ordinal) → c .ordinal .result ≡ ordinalOf (c .before .before .args .domain) maxDomains
 user c = rw (toZ-ofZ (c .before .before .fits .domain)) at (c .ordinal .ensures)
 
 returns-2 : tie.Need-returns-2
@@ -28,10 +29,10 @@ sub-result : tie.Need-sub-result
 sub-result c = search needs
 
 cast-result : tie.Need-cast-result
-cast-result c = omega (arith, user (c .before), ordinal-le (c .before .before .before .args .domain) 32)
+cast-result c = omega (arith, user (c .before), ordinal-le (c .before .before .before .args .domain) maxDomains)
 
 shr-result : tie.Need-shr-result
-shr-result c = omega (arith, user (c .before), ordinal-le (c .before .before .before .args .domain) 32)
+shr-result c = omega (arith, user (c .before), ordinal-le (c .before .before .before .args .domain) maxDomains)
 
 returns-3 : tie.Need-returns-3
 returns-3 c = admitted-user _ _ _ (user (c .before)) (c .if2 .left)

@@ -1,6 +1,6 @@
 -- `Choice::resolve` meets its contract. Assumes nothing.
 use borrow.Author.Needs.{needs}
-use mathlib.Core.Path.{_≡_, _∙_}
+use mathlib.Core.Path.{_∙_}
 use mir.Facts.{toZ-ofZ}
 use Rattle.access.proofs.Vectors.{by-default}
 use Rattle.access.proofs.vector.Choice.resolve.Statement.{statement}

@@ -1,0 +1,5 @@
+pub mod Back
+pub mod Cells
+pub mod Searches
+pub mod Checks
+pub mod OneRegion

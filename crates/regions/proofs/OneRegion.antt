@@ -1,0 +1,87 @@
+-- In a list that fits, at most one region holds an address, and `holder` finds exactly that one. Assumes nothing.
+use Prim.Native.Nat.{ℕ, zero, suc, _+_, _≤_, _<_}
+use native.Mathlib.Omega.{arith}
+use mathlib.Core.Path.{_≡_, refl, ap, _∙_}
+use mathlib.Core.Bool.{Bool, true, false, _&&_}
+use mathlib.Core.List.{List, [], _∷_}
+use mathlib.Core.Option.{none, some}
+use lib.Dec.{leb, ltb}
+use lib.ListN.{length, getD}
+use borrow.Author.Tests.{leb-true, ltb-true, ltb-false}
+use Rattle.model.specs.State.{Region, noRegion}
+use Rattle.model.specs.Regions.{end, holds, orElse, holder}
+use Rattle.model.specs.Conditions.{Ascending, RegionsFit}
+
+-- a region that holds an address starts at or below it and ends above it
+both : (x y : Bool) → x && y ≡ true → (x ≡ true) × (y ≡ true)
+both true y e = (refl, e)
+both false y e = absurd (let z : _≡_ {A = ℕ} 0 1 = cc in omega arith)
+
+pub holds-start : (a : ℕ) (r : Region) → holds a r ≡ true → r .base ≤ a
+holds-start a r h = leb-true (r .base) a (both (leb (r .base) a) (ltb a (end r)) h .0)
+
+pub holds-end : (a : ℕ) (r : Region) → holds a r ≡ true → a < end r
+holds-end a r h = ltb-true a (end r) (both (leb (r .base) a) (ltb a (end r)) h .1)
+
+-- each region ends at or below the start of every later one
+tail : (r : Region) (rs : List Region) → Ascending (r ∷ rs) → Ascending rs
+tail r [] h = tt
+tail r (x ∷ rs) h = h .1
+
+first-below : (r : Region) (rs : List Region) → Ascending (r ∷ rs) → (j : ℕ) → j < length rs → end r ≤ getD rs j noRegion .base
+first-below r [] h j l = absurd (omega arith)
+first-below r (x ∷ rs) h zero l = h .0
+first-below r (x ∷ rs) h (suc j) l = let k = first-below x rs (h .1) j (omega arith) in let k′ = h .0 in omega arith
+
+pub below : (rs : List Region) → Ascending rs → (i j : ℕ) → i < j → j < length rs → end (getD rs i noRegion) ≤ getD rs j noRegion .base
+below rs h i zero k l = absurd (omega arith)
+below [] h i (suc j) k l = absurd (omega arith)
+below (r ∷ rs) h zero (suc j) k l = first-below r rs h j (omega arith)
+below (r ∷ rs) h (suc i) (suc j) k l = below rs (tail r rs h) i j (omega arith) (omega arith)
+
+-- so the first region is passed over where a later one holds the address
+passed : (a : ℕ) (r : Region) (rs : List Region) → Ascending (r ∷ rs) → (i : ℕ) → i < length rs → holds a (getD rs i noRegion) ≡ true → holds a r ≡ false
+passed a r rs g i l h = go (holds a r) refl
+  where
+    go : (b : Bool) → holds a r ≡ b → b ≡ false
+    go false e = refl
+    go true e =
+        let u = first-below r rs g i l in
+        let v = holds-end a r e in
+        let w = holds-start a (getD rs i noRegion) h in
+        absurd (omega arith)
+
+holder-at : (a : ℕ) (rs : List Region) → Ascending rs → (i : ℕ) → i < length rs → holds a (getD rs i noRegion) ≡ true → holder rs a ≡ some (getD rs i noRegion)
+unfolding holder
+holder-at a [] g i l h = absurd (omega arith)
+holder-at a (r ∷ rs) g zero l h = ap (λ (b : Bool). orElse b r (holder rs a)) h
+holder-at a (r ∷ rs) g (suc i) l h =
+    ap (λ (b : Bool). orElse b r (holder rs a)) (passed a r rs g i (omega arith) h) ∙ holder-at a rs (tail r rs g) i (omega arith) h
+
+module _ (a : ℕ) (rs : List Region) (f : RegionsFit rs) where
+  -- a region before another cannot hold an address that the other holds
+  apart : (i j : ℕ) → i < j → j < length rs → holds a (getD rs i noRegion) ≡ true → holds a (getD rs j noRegion) ≡ true → ⊥
+  apart i j l k h h′ =
+      let u = below rs (f .ascending) i j l k in
+      let v = holds-end a (getD rs i noRegion) h in
+      let w = holds-start a (getD rs j noRegion) h′ in
+      omega arith
+
+  -- at most one region holds an address
+  pub one-region : (i j : ℕ) → i < length rs → j < length rs → holds a (getD rs i noRegion) ≡ true → holds a (getD rs j noRegion) ≡ true → i ≡ j
+  one-region i j l k h h′ = go (ltb i j) refl (ltb j i) refl
+    where
+      go : (b : Bool) → ltb i j ≡ b → (c : Bool) → ltb j i ≡ c → i ≡ j
+      go true e c e′ = absurd (apart i j (ltb-true i j e) k h h′)
+      go false e true e′ = absurd (apart j i (ltb-true j i e′) l h′ h)
+      go false e false e′ = let m = ltb-false i j e in let n = ltb-false j i e′ in omega arith
+
+  -- and `holder` finds it
+  pub the-holder : (i : ℕ) → i < length rs → holds a (getD rs i noRegion) ≡ true → holder rs a ≡ some (getD rs i noRegion)
+  the-holder i l h = holder-at a rs (f .ascending) i l h
+
+-- where no region holds an address `holder` finds none
+pub no-holder : (a : ℕ) (rs : List Region) → ((i : ℕ) → i < length rs → holds a (getD rs i noRegion) ≡ false) → holder rs a ≡ none
+unfolding holder
+no-holder a [] h = refl
+no-holder a (r ∷ rs) h = ap (λ (b : Bool). orElse b r (holder rs a)) (h zero (omega arith)) ∙ no-holder a rs (λ i l. h (suc i) (omega arith))

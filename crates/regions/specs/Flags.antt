@@ -1,0 +1,8 @@
+-- Bits by their values (document 01: "the bit value"). Definitions only.
+use Prim.Native.Nat.{ℕ, _/_, _%_}
+use mathlib.Core.Bool.{Bool}
+use lib.Dec.{eqb}
+
+-- whether the bit of that value is set
+abbrev pub hasValue : ℕ → ℕ → Bool
+hasValue flags value = eqb (flags / value % 2) 1

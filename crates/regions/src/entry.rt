@@ -1,0 +1,112 @@
+// Region entries (document 01, "Building the table").
+ghost use mathlib.Core.Path.{_≡_};
+ghost use Prim.Native.Nat.{_<_};
+ghost use mathlib.Core.List.{[], _∷_, _++_};
+ghost use lib.ListN.{length};
+ghost use Rattle.itron.specs.Limits.{maxRegions};
+ghost use Rattle.model.specs.Answers.{resultOf};
+ghost use Rattle.model.specs.Regions.{attributeOk, numbersOk, lastEnd};
+ghost use Rattle.regions.specs.View.{regionsOf};
+ghost use Rattle.regions.specs.Form.{regionsAs};
+ghost use Rattle.regions.specs.Held.{Held};
+ghost use Rattle.regions.specs.Entries.{entryCheck, newRegion};
+use crate::flag::EXECUTABLE;
+use crate::flag::NO_WRITE;
+use crate::state::Protection;
+use crate::state::Regions;
+use access::vector::Choice;
+use access::vector::Vector;
+use itron::code::E_OBJ;
+use itron::code::E_OK;
+use itron::code::E_PAR;
+use itron::code::E_RSATR;
+use itron::limit::ADDRESS_END;
+
+pub struct RegionEntry {
+    pub domain: i32,
+    pub attribute: u32,
+    pub base: u32,
+    pub size: u32,
+    pub vector: Choice,
+}
+
+// Whether an attribute has no bits but no-write and execute.
+pub(crate) fn is_attribute(attribute: u32) -> bool
+    ensures { λ r. ⌜ r ≡ attributeOk attribute ⌝ }
+{
+    if attribute == 0 {
+        return true;
+    }
+    if attribute == NO_WRITE {
+        return true;
+    }
+    if attribute == EXECUTABLE {
+        return true;
+    }
+    attribute == NO_WRITE + EXECUTABLE
+}
+
+// Whether an area has bytes and ends within the addresses. The sum is made in 64 bits.
+pub(crate) fn is_area(base: u32, size: u32) -> bool
+    ensures { λ r. ⌜ r ≡ numbersOk base size ⌝ }
+{
+    if size < 1 {
+        return false;
+    }
+    base as u64 + size as u64 <= ADDRESS_END
+}
+
+impl Regions {
+    // The end of the region entered last, 0 where there is none.
+    pub(crate) fn last_end(self) -> u64
+        requires { ⌜ Held self ⌝ }
+        ensures { λ r. ⌜ r ≡ lastEnd (regionsOf self) ⌝ }
+    {
+        let count = self.count;
+        if count == 0 {
+            return 0;
+        }
+        self.at(count - 1).end()
+    }
+
+    // The code of an entry's attribute and numbers, by the checks of document 01 in their order.
+    pub fn check(self, attribute: u32, base: u32, size: u32) -> i32
+        requires { ⌜ Held self ⌝ }
+        ensures { λ r. ⌜ r ≡ resultOf (entryCheck (regionsOf self) attribute base size) ⌝ }
+    {
+        if !is_attribute(attribute) {
+            return E_RSATR;
+        }
+        if !is_area(base, size) {
+            return E_PAR;
+        }
+        if (base as u64) < self.last_end() {
+            return E_OBJ;
+        }
+        E_OK
+    }
+
+    // The regions with one more, the last.
+    pub fn add(
+        mut self,
+        domain: i32,
+        attribute: u32,
+        base: u32,
+        size: u32,
+        vector: Vector,
+    ) -> Regions
+        requires { ⌜ Held self × (length (regionsOf self) < maxRegions) ⌝ }
+        ensures { λ r. ⌜ r ≡ regionsAs (regionsOf self ++ (newRegion domain attribute base size vector ∷ [])) ⌝ }
+    {
+        let index = self.count;
+        self.bases[index] = base;
+        self.sizes[index] = size;
+        self.protections[index] = Protection {
+            domain,
+            attribute,
+            vector,
+        };
+        self.count = index + 1;
+        self
+    }
+}

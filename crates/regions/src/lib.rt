@@ -1,0 +1,6 @@
+// Memory regions: the part of the kernel's state that holds them, their entries, and the memory verdict (document 01).
+pub mod entry;
+pub mod flag;
+pub mod search;
+pub mod state;
+pub mod verdict;

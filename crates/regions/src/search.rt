@@ -1,0 +1,36 @@
+// The search for the region that holds an address.
+ghost use mathlib.Core.Path.{_≡_};
+ghost use Prim.Native.Nat.{_≤_};
+ghost use lib.ListN.{length};
+ghost use Rattle.regions.specs.Search.{coveredBy, lookup};
+
+// The index of a region, if there is one.
+pub(crate) enum Found {
+    At(usize),
+    Nothing,
+}
+
+// Whether an area holds an address. By a difference and no sum, since an end may be 2^32.
+pub(crate) fn covers(start: u32, size: u32, address: u32) -> bool
+    ensures { λ r. ⌜ r ≡ coveredBy start size address ⌝ }
+{
+    if address < start {
+        return false;
+    }
+    address - start < size
+}
+
+// The first of `count` regions that holds an address.
+pub(crate) fn find<'a>(bases: &'a [u32], sizes: &'a [u32], count: usize, address: u32) -> Found
+    requires { ⌜ (count ≤ length (now bases)) × (count ≤ length (now sizes)) ⌝ }
+    ensures { λ r. ⌜ r ≡ lookup (now (bases .entry)) (now (sizes .entry)) address 0 count ⌝ }
+{
+    let mut i: usize = 0;
+    while i < count {
+        if covers(bases[i], sizes[i], address) {
+            return Found::At(i);
+        }
+        i += 1;
+    }
+    Found::Nothing
+}

@@ -1,0 +1,123 @@
+// The memory verdict on a closed table for a known domain (document 01, "The memory verdict").
+ghost use mathlib.Core.Path.{_≡_};
+ghost use mathlib.Core.Option.{some};
+ghost use Rattle.model.specs.Answers.{resultOf};
+ghost use Rattle.model.specs.Regions.{end, mayWrite, mayRead, mayExecute, grants, allows, areaOk, judgeIn, judge};
+ghost use Rattle.regions.specs.View.{regionsOf, shownAs};
+ghost use Rattle.regions.specs.Held.{Held};
+use crate::entry::is_area;
+use crate::flag::EXECUTABLE;
+use crate::flag::EXECUTE;
+use crate::flag::NO_WRITE;
+use crate::flag::READ;
+use crate::flag::WRITE;
+use crate::flag::has;
+use crate::search::Found;
+use crate::search::find;
+use crate::state::RegionInfo;
+use crate::state::Regions;
+use access::pattern::admits;
+use itron::code::E_MACV;
+use itron::code::E_NOEXS;
+use itron::code::E_OBJ;
+use itron::code::E_OK;
+use itron::code::E_PAR;
+
+// Whether there is a wish and no unknown one, and the area is one.
+pub(crate) fn is_request(base: u32, size: u32, wishes: u32) -> bool
+    ensures { λ r. ⌜ r ≡ areaOk base size wishes ⌝ }
+{
+    if wishes < 1 {
+        return false;
+    }
+    if WRITE + READ + EXECUTE < wishes {
+        return false;
+    }
+    is_area(base, size)
+}
+
+// A wish that is not there is granted.
+pub(crate) fn granted(wanted: bool, may: bool) -> bool
+    ensures { λ r. ⌜ r ≡ grants wanted may ⌝ }
+{
+    if wanted {
+        return may;
+    }
+    true
+}
+
+impl RegionInfo {
+    // The first address past the region, in 64 bits since it may be 2^32.
+    pub(crate) fn end(self) -> u64
+        ensures { λ r. ⌜ r ≡ end (shownAs self) ⌝ }
+    {
+        self.base as u64 + self.size as u64
+    }
+
+    pub(crate) fn may_write(self, domain: i32) -> bool
+        ensures { λ r. ⌜ r ≡ mayWrite (shownAs self) domain ⌝ }
+    {
+        if has(self.attribute, NO_WRITE) {
+            return false;
+        }
+        admits(self.vector.normal1, domain)
+    }
+
+    pub(crate) fn may_read(self, domain: i32) -> bool
+        ensures { λ r. ⌜ r ≡ mayRead (shownAs self) domain ⌝ }
+    {
+        admits(self.vector.normal2, domain)
+    }
+
+    pub(crate) fn may_execute(self, domain: i32) -> bool
+        ensures { λ r. ⌜ r ≡ mayExecute (shownAs self) domain ⌝ }
+    {
+        if has(self.attribute, EXECUTABLE) {
+            return admits(self.vector.normal2, domain);
+        }
+        false
+    }
+
+    // Whether every wish is granted.
+    pub(crate) fn allows(self, domain: i32, wishes: u32) -> bool
+        ensures { λ r. ⌜ r ≡ allows (shownAs self) domain wishes ⌝ }
+    {
+        if !granted(has(wishes, WRITE), self.may_write(domain)) {
+            return false;
+        }
+        if !granted(has(wishes, READ), self.may_read(domain)) {
+            return false;
+        }
+        granted(has(wishes, EXECUTE), self.may_execute(domain))
+    }
+
+    // The verdict on an area that starts in this region.
+    pub(crate) fn judge(self, domain: i32, base: u32, size: u32, wishes: u32) -> i32
+        ensures { λ r. ⌜ r ≡ resultOf (judgeIn (some (shownAs self)) domain base size wishes) ⌝ }
+    {
+        if self.end() < base as u64 + size as u64 {
+            return E_OBJ;
+        }
+        if !self.allows(domain, wishes) {
+            return E_MACV;
+        }
+        E_OK
+    }
+}
+
+impl Regions {
+    // The code of the verdict, whatever is asked.
+    pub fn judge(self, domain: i32, base: u32, size: u32, wishes: u32) -> i32
+        requires { ⌜ Held self ⌝ }
+        ensures { λ r. ⌜ r ≡ resultOf (judge (regionsOf self) domain base size wishes) ⌝ }
+    {
+        if !is_request(base, size, wishes) {
+            return E_PAR;
+        }
+        let count = self.count;
+        match find(&self.bases, &self.sizes, count, base) {
+            Found::At(index) => self.at(index).judge(domain, base, size, wishes),
+            Found::Nothing => E_NOEXS,
+        }
+    }
+}

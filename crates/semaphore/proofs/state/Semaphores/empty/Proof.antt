@@ -1,0 +1,14 @@
+use mathlib.Core.Path.{refl}
+use Rattle.semaphore.specs.Form.{semsAs}
+use Rattle.semaphore.proofs.state.Semaphores.empty.Statement.{statement}
+use Rattle.semaphore.proofs.state.Semaphores.empty.Tie as tie
+use Rattle.semaphore.proofs.state.Semaphores.empty.Reads as reads
+use Rattle.semaphore.proofs.state.Semaphores.empty.Lts as lts
+
+-- src/state.rt:32:5
+returns : tie.Need-returns
+unfolding semsAs
+returns c = refl
+
+pub empty-spec : {M : Type 1} → statement M
+empty-spec = tie.close (tie.spec returns)

@@ -1,0 +1,5 @@
+pub mod View
+pub mod Form
+pub mod Held
+pub mod Entries
+pub mod Effects

@@ -1,0 +1,36 @@
+// The entry of a semaphore (document 01, "Building the table").
+ghost use mathlib.Core.Path.{_≡_};
+ghost use Rattle.model.specs.Answers.{resultOf};
+ghost use Rattle.semaphore.specs.Entries.{entryCheck};
+use access::vector::Choice;
+use itron::code::E_OK;
+use itron::code::E_PAR;
+use itron::code::E_RSATR;
+use itron::limit::MAX_COUNT;
+
+pub struct SemaphoreEntry {
+    pub domain: i32,
+    pub attribute: u32,
+    pub start: u32,
+    pub max: u32,
+    pub vector: Choice,
+}
+
+// Steps 4 and 5 of the checks, first hit wins; E_OK where the entry is taken.
+pub fn check(attribute: u32, start: u32, max: u32) -> i32
+    ensures { λ r. ⌜ r ≡ resultOf (entryCheck attribute start max) ⌝ }
+{
+    if attribute != 0 {
+        return E_RSATR;
+    }
+    if max < 1 {
+        return E_PAR;
+    }
+    if MAX_COUNT < max {
+        return E_PAR;
+    }
+    if max < start {
+        return E_PAR;
+    }
+    E_OK
+}

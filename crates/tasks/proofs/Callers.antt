@@ -1,0 +1,91 @@
+-- Who calls, and the task with a number. Assumes nothing.
+use Prim.Native.Nat.{ℕ, zero, suc, _-_, _≤_, _<_}
+use native.Mathlib.Omega.{arith}
+use mathlib.Core.Path.{_≡_, refl, sym, ap, _∙_}
+use mathlib.Core.Logic.{_≢_}
+use mathlib.Core.Bool.{Bool, true, false, not, _&&_}
+use lib.Dec.{eqb, leb}
+use lib.IntN.{ℤ, pos, negsuc}
+use lib.ListN.{length, getD}
+use borrow.Author.Tests.{le-leb, lt-leb, ne-eqb}
+use Rattle.access.specs.Patterns.{pick, ordinalOf}
+use Rattle.access.proofs.Ordinals.{ordinal-user}
+use Rattle.model.specs.Lists.{at}
+use Rattle.model.specs.Waits.{absent}
+use Rattle.model.specs.Calls.{no}
+use Rattle.tasks.specs.declared.task.Task.{Task}
+use Rattle.tasks.specs.declared.state.Tasks.{Tasks}
+use Rattle.tasks.specs.declared.wait.Caller.the-variants as Caller
+use Rattle.tasks.specs.View.{noTask, domainOf, domainsOf, waitsOf}
+use Rattle.tasks.specs.Form.{waitFor}
+use Rattle.tasks.specs.Held.{Held, isReady}
+use Rattle.tasks.specs.Ends.{isTask, callerOf, taskOf}
+use Rattle.tasks.proofs.Waits.{ready-absent}
+use Rattle.tasks.proofs.Entries.{entry}
+use Rattle.tasks.proofs.Back.{count-seen, entry-seen}
+
+and-no : (b : Bool) → b && false ≡ false
+and-no true = refl
+and-no false = refl
+
+-- ---- a number outside 1 to n, and one from 1 to n
+pub outside : (z : ℤ) (n : ℕ) → ordinalOf z n ≡ 0 → not (eqb (no z) 0) && leb (no z) n ≡ false
+unfolding ordinalOf
+outside (negsuc k) n h = refl
+outside (pos zero) n h = refl
+outside (pos (suc k)) n h = go (leb (suc k) n) refl h
+  where
+    go : (b : Bool) → leb (suc k) n ≡ b → pick b (suc k) 0 ≡ 0 → not (eqb (suc k) 0) && leb (suc k) n ≡ false
+    go true e q = absurd (omega arith)
+    go false e q = rw e (and-no (not (eqb (suc k) 0)))
+
+pub record Within (z : ℤ) (n k : ℕ) : Type 0 where
+  pub positive : z ≡ pos (suc (k - 1))
+  pub same : no z ≡ suc (k - 1)
+  pub low : k - 1 < n
+  pub test : not (eqb (no z) 0) && leb (no z) n ≡ true
+
+pub within : (z : ℤ) (n k : ℕ) → k ≡ ordinalOf z n → k ≢ 0 → Within z n k
+within z n k e h =
+    let i : k ≡ suc (k - 1) = omega arith in
+    let u = ordinal-user z n (k - 1) (sym e ∙ i) in
+    let s : no z ≡ suc (k - 1) = ap no (u .0) in
+    let l = u .1 in
+    record { positive = u .0; same = s; low = l; test = rw s (rw (ne-eqb (suc (k - 1)) 0 (λ q. omega arith)) (le-leb (suc (k - 1)) n (omega arith))) }
+
+-- ---- who calls
+module _ {t : Tasks} (h : Held t) (z : ℤ) where
+  pub caller-none : ordinalOf z (t .count) ≡ 0 → Caller.Nobody ≡ callerOf (domainsOf t) (waitsOf t) (no z)
+  caller-none e =
+      let o : isTask (domainsOf t) (no z) ≡ false = ap (λ (n : ℕ). not (eqb (no z) 0) && leb (no z) n) (sym (count-seen h)) ∙ outside z (t .count) e in
+      rw o
+
+  module _ (k : ℕ) (e : k ≡ ordinalOf z (t .count)) (n : k ≢ 0) where
+    is-task : isTask (domainsOf t) (no z) ≡ true
+    is-task = ap (λ (m : ℕ). not (eqb (no z) 0) && leb (no z) m) (sym (count-seen h)) ∙ within z (t .count) k e n .test
+
+    at-row : getD (t .entries) (k - 1) noTask ≡ entry (getD (domainsOf t) (k - 1) (pos 0)) (waitFor (suc (k - 1)) (waitsOf t))
+    at-row = entry-seen h (k - 1) (let c = count-seen h in let l = within z (t .count) k e n .low in omega arith)
+
+    ready-by : absent (no z) (waitsOf t) ≡ isReady (getD (t .entries) (k - 1) noTask .wait)
+    ready-by =
+        ap (λ (m : ℕ). absent m (waitsOf t)) (within z (t .count) k e n .same)
+        ∙ sym (ap (λ (x : Task). isReady (x .wait)) at-row ∙ ready-absent (suc (k - 1)) (waitsOf t))
+
+    pub caller-busy : isReady (getD (t .entries) (k - 1) noTask .wait) ≡ false → Caller.Nobody ≡ callerOf (domainsOf t) (waitsOf t) (no z)
+    caller-busy b = rw (is-task, ready-by, b)
+
+    pub caller-ready : isReady (getD (t .entries) (k - 1) noTask .wait) ≡ true → Caller.Ready (k - 1) (getD (t .entries) (k - 1) noTask .domain) ≡ callerOf (domainsOf t) (waitsOf t) (no z)
+    caller-ready b = let d = ap domainOf at-row in rw (is-task, ready-by, b, within z (t .count) k e n .same, d)
+
+-- ---- the task with a number
+module _ {t : Tasks} (h : Held t) (n : ℕ) where
+  pub task-over : t .count < n → noTask ≡ taskOf (domainsOf t) (waitsOf t) n
+  task-over l = rw (lt-leb n (length (domainsOf t)) (let c = count-seen h in omega arith), and-no (not (eqb n 0)))
+
+  pub task-in : n ≢ 0 → n ≤ t .count → getD (t .entries) (n - 1) noTask ≡ taskOf (domainsOf t) (waitsOf t) n
+  task-in z l =
+      let c = count-seen h in
+      let i : n ≡ suc (n - 1) = omega arith in
+      entry-seen h (n - 1) (omega arith)
+      ∙ sym (rw (ne-eqb n 0 z, le-leb n (length (domainsOf t)) (omega arith)) (λ j. entry (at (pos 0) (domainsOf t) (i j)) (waitFor (i j) (waitsOf t))))

@@ -1,0 +1,9 @@
+pub mod Waits
+pub mod Entries
+pub mod Orders
+pub mod Back
+pub mod Changes
+pub mod Places
+pub mod Firsts
+pub mod Callers
+pub mod Ends

@@ -1,0 +1,77 @@
+use borrow.Author.Needs.{needs}
+use Prim.Native.Nat.{_-_}
+use native.Mathlib.Omega.{arith}
+use mathlib.Core.Path.{_≡_, ap, sym, _∙_}
+use mir.Syntax.{w32}
+use mir.Val.{toZ, ofZ}
+use mir.Facts.{toZ-ofZ}
+use lib.ListN.{getD}
+use Rattle.access.specs.Patterns.{ordinalOf}
+use Rattle.access.proofs.Ordinals.{ordinal-le}
+use Rattle.tasks.specs.declared.wait.Caller.the-variants as Caller
+use Rattle.tasks.specs.View.{noTask}
+use Rattle.tasks.proofs.Places.{idle, busy}
+use Rattle.tasks.proofs.Callers.{caller-none, caller-busy, caller-ready}
+use Rattle.tasks.proofs.state.Tasks.caller.Statement.{statement}
+use Rattle.tasks.proofs.state.Tasks.caller.Tie as tie
+use Rattle.tasks.proofs.state.Tasks.caller.Reads as reads
+use Rattle.tasks.proofs.state.Tasks.caller.Lts as lts
+use Rattle.access.proofs.domain.ordinal.Reads as ordinal-reads
+
+-- src/wait.rt:122:13
+ordinal-requires : tie.Need-ordinal-requires
+ordinal-requires c κs = search needs
+
+-- the caller's number
+number : (c : tie.After-ordinal) → c .ordinal .result ≡ ordinalOf (c .before .args .number) (c .before .args .t1 .count)
+number c = rw (toZ-ofZ (c .before .fits .number)) at (c .ordinal .ensures)
+
+-- src/wait.rt:124:13
+returns : tie.Need-returns
+returns c = let p = c .before in caller-none (p .before .pre) (p .before .args .number) (sym (number p) ∙ c .if1 .taken)
+
+-- src/wait.rt:126:20
+sub-task : tie.Need-sub-task
+sub-task c = search needs
+
+-- src/wait.rt:127:21
+mul-entry : tie.Need-mul-entry
+mul-entry c = let a = c .before .before in omega (arith, number (c .before), ordinal-le (a .args .number) (a .args .t1 .count), a .pre .few)
+
+-- src/wait.rt:127:21
+element-copy-out-entry : tie.Need-element-copy-out-entry
+element-copy-out-entry c = let a = c .before .before in omega (arith, number (c .before), ordinal-le (a .args .number) (a .args .t1 .count), a .pre .few)
+
+-- src/wait.rt:130:28
+enum-told : tie.Need-enum-told
+enum-told c = search needs
+
+-- src/wait.rt:118:5
+returns-2 : tie.Need-returns-2
+returns-2 c =
+    let p = c .before .before .before .before .before in
+    let b = p .before in
+    let s = b .args .t1 in
+    let e : toZ w32 (ofZ w32 (getD (s .entries) (p .ordinal .result - 1) noTask .domain)) ≡ getD (s .entries) (p .ordinal .result - 1) noTask .domain = search needs in
+    ap (Caller.Ready (p .ordinal .result - 1)) e
+    ∙ caller-ready (b .pre) (b .args .number) (p .ordinal .result) (number p) (c .before .before .before .before .if1 .left) (idle (getD (s .entries) (p .ordinal .result - 1) noTask .wait) (c .before .before .match .keys1))
+
+-- src/wait.rt:118:5
+returns-3 : tie.Need-returns-3
+returns-3 c =
+    let p = c .before .before .before in
+    let b = p .before in
+    caller-busy (b .pre) (b .args .number) (p .ordinal .result) (number p) (c .before .before .if1 .left) (busy (getD (b .args .t1 .entries) (p .ordinal .result - 1) noTask .wait) (c .match .keys2))
+
+pub caller-spec : {M : Type 1} → statement M
+caller-spec =
+    tie.close
+    (tie.spec
+    ordinal-requires
+    returns
+    sub-task
+    mul-entry
+    element-copy-out-entry
+    enum-told
+    returns-2
+    returns-3)

@@ -1,0 +1,47 @@
+-- The one form in which the arrays hold the tasks: unused cells are zero, and what is held twice agrees. Definitions only.
+use Prim.Native.Nat.{ℕ, zero, suc}
+use mathlib.Core.List.{List, [], _∷_, map}
+use lib.Dec.{eqb}
+use lib.IntN.{ℤ}
+use lib.ListN.{length}
+use Rattle.access.specs.Patterns.{pick}
+use Rattle.arrays.specs.Pad.{pad, index}
+use Rattle.itron.specs.Limits.{maxTasks}
+use Rattle.model.specs.State.{Waiter}
+use Rattle.model.specs.declared.Side.{Side}
+use Rattle.model.specs.declared.Side.the-variants.{OnSem as onSem, Receiving as receiving, Sending as sending}
+use Rattle.tasks.specs.declared.task.Wait.{Wait}
+use Rattle.tasks.specs.declared.task.Wait.the-variants.{Ready, OnSem, Receiving, Sending}
+use Rattle.tasks.specs.declared.task.Task.{Task}
+use Rattle.tasks.specs.declared.state.Tasks.{Tasks}
+use Rattle.tasks.specs.View.{noTask}
+
+abbrev pub waitAs : Side → ℕ → ℕ → Wait
+waitAs onSem n w = OnSem (index n)
+waitAs receiving n w = Receiving (index n)
+waitAs sending n w = Sending (index n) w
+
+abbrev pub waitIn : Waiter → Wait
+waitIn e = waitAs (e .place .side) (e .place .number) (e .word)
+
+-- what a task does, by the list of all who wait
+abbrev pub waitFor : ℕ → List Waiter → Wait
+waitFor t [] = Ready
+waitFor t (e ∷ l) = pick (eqb t (e .task)) (waitIn e) (waitFor t l)
+
+-- the tasks after the first n, of these domains
+abbrev pub tasksFrom : ℕ → List ℤ → List Waiter → List Task
+tasksFrom n [] l = []
+tasksFrom n (d ∷ ds) l = record { domain = d; wait = waitFor (suc n) l } ∷ tasksFrom (suc n) ds l
+
+abbrev pub indexIn : Waiter → ℕ
+indexIn e = index (e .task)
+
+unfoldable pub tasksAs : List ℤ → List Waiter → Tasks
+tasksAs ds ws =
+    record {
+      count = length ds;
+      entries = pad maxTasks noTask (tasksFrom 0 ds ws);
+      waiting = length ws;
+      order = pad maxTasks 0 (map indexIn ws);
+    }

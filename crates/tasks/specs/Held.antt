@@ -1,0 +1,34 @@
+-- What every function on the tasks asks of them and keeps. Definitions only.
+use Prim.Native.Nat.{ℕ, suc, _≤_, _<_}
+use mathlib.Core.Path.{_≡_}
+use mathlib.Core.Bool.{Bool, true, false}
+use mathlib.Core.List.{List}
+use lib.IntN.{ℤ}
+use lib.ListN.{length}
+use Rattle.itron.specs.Limits.{maxTasks}
+use Rattle.model.specs.State.{Waiter}
+use Rattle.model.specs.Waits.{absent}
+use Rattle.model.specs.Conditions.{WaitsFit}
+use Rattle.tasks.specs.declared.task.Wait.{Wait}
+use Rattle.tasks.specs.declared.task.Wait.the-variants.{Ready, OnSem, Receiving, Sending}
+use Rattle.tasks.specs.declared.state.Tasks.{Tasks}
+use Rattle.tasks.specs.View.{domainsOf, waitsOf}
+use Rattle.tasks.specs.Form.{tasksAs}
+
+-- the tasks are the form of what is seen of them, within the limits; the last two follow from these
+pub record Held (t : Tasks) : Type 0 where
+  pub form : t ≡ tasksAs (domainsOf t) (waitsOf t)
+  pub fit : WaitsFit (domainsOf t) (waitsOf t)
+  pub few : t .count ≤ maxTasks
+  pub room : t .waiting ≤ maxTasks
+
+abbrev pub isReady : Wait → Bool
+isReady Ready = true
+isReady (OnSem k) = false
+isReady (Receiving k) = false
+isReady (Sending k w) = false
+
+-- the task with an index is registered and does not wait
+pub record Free (ds : List ℤ) (ws : List Waiter) (task : ℕ) : Type 0 where
+  pub low : task < length ds
+  pub free : absent (suc task) ws ≡ true

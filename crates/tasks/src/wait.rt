@@ -1,0 +1,182 @@
+// Wait queues: who is first at a place, who calls, who is woken and who begins to wait.
+ghost use mathlib.Core.Path.{_≡_};
+ghost use mathlib.Core.Bool.{false, true};
+ghost use mathlib.Core.List.{[], map};
+ghost use Prim.Native.Nat.{ℕ, suc, _≤_, _<_};
+ghost use lib.ListN.{length, getD};
+ghost use Rattle.model.specs.State.{place, samePlace};
+ghost use Rattle.model.specs.Waits.{waitersIn, firstTask, orWaits};
+ghost use Rattle.model.specs.Calls.{no};
+ghost use Rattle.tasks.specs.View.{domainsOf, waitsOf, waiterOf, noTask};
+ghost use Rattle.tasks.specs.Held.{Held, Free, isReady};
+ghost use Rattle.tasks.specs.Ends.{firstOf, taskIn, callerOf, endedOf, wokenOf};
+use crate::state::Tasks;
+use crate::task::Task;
+use crate::task::Wait;
+use access::domain;
+use itron::code::E_OK;
+use itron::code::E_TMOUT;
+use itron::limit::MAX_TASKS;
+use model::Outcome;
+use model::Patience;
+use model::Released;
+use model::Reply;
+use model::Side;
+
+// The first who waits at a place, with its word.
+pub enum First {
+    Nobody,
+    Waiter(usize, u32),
+}
+
+// Who calls: a ready task with its domain, or nobody who may.
+pub enum Caller {
+    Nobody,
+    Ready(usize, i32),
+}
+
+// A call's end that changes the tasks only.
+pub struct Ended {
+    pub reply: Reply,
+    pub tasks: Tasks,
+}
+
+// What the task at an index does; past the end it is ready.
+pub(crate) fn wait_of(entries: [Task; MAX_TASKS], index: usize) -> Wait
+    ensures { λ r. ⌜ r ≡ getD entries index noTask .wait ⌝ }
+{
+    if MAX_TASKS <= index {
+        return Wait::Ready;
+    }
+    let task = entries[index];
+    task.wait
+}
+
+// Whether a task that does this waits at a place.
+pub(crate) fn waits_at(wait: Wait, side: Side, object: usize) -> bool
+    ensures { λ r. ⌜ r ≡ samePlace (place side (suc object)) (waiterOf 0 wait .place) ⌝ }
+{
+    match side {
+        Side::OnSem => match wait {
+            Wait::OnSem(k) => object == k,
+            _ => false,
+        },
+        Side::Receiving => match wait {
+            Wait::Receiving(k) => object == k,
+            _ => false,
+        },
+        Side::Sending => match wait {
+            Wait::Sending(k, _) => object == k,
+            _ => false,
+        },
+    }
+}
+
+// The word that a sending task waits with; 0 of any other.
+pub(crate) fn word_of(wait: Wait) -> u32
+    ensures { λ r. ⌜ r ≡ waiterOf 0 wait .word ⌝ }
+{
+    match wait {
+        Wait::Sending(_, word) => word,
+        _ => 0,
+    }
+}
+
+impl Tasks {
+    // The first who waits at a place.
+    pub fn first(self, side: Side, object: usize) -> First
+        requires { ⌜ Held self ⌝ }
+        ensures { λ r. ⌜ r ≡ firstOf (waitersIn (waitsOf self) (place side (suc object))) ⌝ }
+    {
+        let entries = self.entries;
+        let order = self.order;
+        let waiting = self.waiting;
+        let mut i = 0;
+        while i < waiting {
+            let task = order[i];
+            let wait = wait_of(entries, task);
+            if waits_at(wait, side, object) {
+                return First::Waiter(task, word_of(wait));
+            }
+            i += 1;
+        }
+        First::Nobody
+    }
+
+    // The number of the first who waits at a place; 0 if nobody does.
+    pub fn first_number(self, side: Side, object: usize) -> usize
+        requires { ⌜ Held self ⌝ }
+        ensures { λ r. ⌜ r ≡ firstTask (waitersIn (waitsOf self) (place side (suc object))) ⌝ }
+    {
+        match self.first(side, object) {
+            First::Waiter(task, _) => task + 1,
+            First::Nobody => 0,
+        }
+    }
+
+    // Who calls under a number: only a registered ready task may.
+    pub fn caller(self, number: i32) -> Caller
+        requires { ⌜ Held self ⌝ }
+        ensures { λ r. ⌜ r ≡ callerOf (domainsOf self) (waitsOf self) (no number) ⌝ }
+    {
+        let ordinal = domain::ordinal(number, self.count);
+        if ordinal == 0 {
+            return Caller::Nobody;
+        }
+        let task = ordinal - 1;
+        let entry = self.entries[task];
+        let wait = entry.wait;
+        match wait {
+            Wait::Ready => Caller::Ready(task, entry.domain),
+            _ => Caller::Nobody,
+        }
+    }
+
+    // A waiting task is released and handed a word; the caller gets E_OK and a word.
+    pub fn wake(mut self, task: usize, word: u32, handed: u32) -> Ended
+        requires { ⌜ Held self × (task < length (domainsOf self)) ⌝ }
+        ensures { λ r. ⌜ r ≡ wokenOf (domainsOf self) (waitsOf self) task word handed ⌝ }
+    {
+        let number = task + 1;
+        self = self.release(task);
+        Ended {
+            reply: Reply {
+                outcome: Outcome::Code(E_OK),
+                word,
+                released: Released {
+                    task: number,
+                    word: handed,
+                },
+            },
+            tasks: self,
+        }
+    }
+
+    // The caller waits, if it has the patience.
+    pub fn or_wait(mut self, task: usize, wait: Wait, patience: Patience) -> Ended
+        requires { ⌜ Held self × Free (domainsOf self) (waitsOf self) task × (isReady wait ≡ false) ⌝ }
+        ensures { λ r. ⌜ r ≡ endedOf (domainsOf self) (orWaits {R = ℕ} (waitsOf self) [] patience (waiterOf (suc task) wait)) ⌝ }
+    {
+        match patience {
+            Patience::Polling => Ended {
+                reply: Reply {
+                    outcome: Outcome::Code(E_TMOUT),
+                    word: 0,
+                    released: Released { task: 0, word: 0 },
+                },
+                tasks: self,
+            },
+            Patience::Forever => {
+                self = self.join(task, wait);
+                Ended {
+                    reply: Reply {
+                        outcome: Outcome::Waiting,
+                        word: 0,
+                        released: Released { task: 0, word: 0 },
+                    },
+                    tasks: self,
+                }
+            },
+        }
+    }
+}
