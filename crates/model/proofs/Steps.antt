@@ -10,8 +10,8 @@ use lib.Dec.{eqb, ltb, leb, T, ltb→lt, nltb→le}
 use lib.IntN.{ℤ}
 use Rattle.itron.specs.Codes.{Err, Code, ok, waiting, error}
 use Rattle.model.proofs.Cases.{patternFor, setWaits, setCount, setBuffer, release, join, waits-as}
-use Rattle.model.specs.Answers.{Released, Answer, Out, say, out, refuse, done}
-use Rattle.model.specs.Calls.{Kind, semaphore, queue, Op, signal, acquire, send, receive, refer, setVector, Call, no, vectorAt, admits, registered, kindOf, numberIn, infoOf, setVectorOf, step}
+use Rattle.model.specs.Answers.{noInfo, Released, Answer, Out, say, out, refuse, done}
+use Rattle.model.specs.Calls.{isRefer, Kind, semaphore, queue, Op, signal, acquire, send, receive, refer, setVector, Call, no, vectorAt, admits, registered, kindOf, numberIn, infoOf, setVectorOf, step}
 use Rattle.model.specs.Demand3.{wordsIn}
 use Rattle.model.specs.History.{without, Event, event, handed, handedBy, sent, sentBy, wordsOf, joined, joinedBy, grants, grantBy, signals, signalBy, countIf, vectorBy, either, sameKind}
 use Rattle.model.specs.Lists.{at, put, keep, only}
@@ -311,3 +311,28 @@ kept-cases s = record {
 
 pub kept-law : (s : State) (c : Call) (e : Err) → step s c .answer .code ≡ error e → step s c .state ≡ s
 kept-law s c = cover s (KeptLaw s) (kept-cases s) c
+
+-- ---- only a refer tells numbers
+abbrev InfoLaw : Call → Out → Type 0
+InfoLaw c o = isRefer (c .op) ≡ false → o .answer .info ≡ noInfo
+
+info-cases : (s : State) → Covers s InfoLaw
+info-cases s = record {
+  refused = λ c e z. refl;
+  signalWakes = λ t n a e l h z. refl;
+  signalCounts = λ t n a h r z. refl;
+  acquires = λ t n p a m h z. refl;
+  acquireWaits = λ t n a h z. refl;
+  sendPasses = λ t n w p a e l h z. refl;
+  sendStores = λ t n w p a h r z. refl;
+  sendWaits = λ t n w a h r z. refl;
+  receives = λ t n p a x b h r z. refl;
+  receiveRefills = λ t n p a x b e l h r z. refl;
+  receivePasses = λ t n p a e l h r z. refl;
+  receiveWaits = λ t n a h r z. refl;
+  refers = λ t n m a z. absurd (no-both {b = true} refl z);
+  setsVector = λ t n m v a z. refl;
+}
+
+pub info-law : (s : State) (c : Call) → isRefer (c .op) ≡ false → step s c .answer .info ≡ noInfo
+info-law s c = cover s InfoLaw (info-cases s) c

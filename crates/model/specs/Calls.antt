@@ -63,6 +63,14 @@ operationOf (receive p q) = Normal2
 operationOf (refer k n) = Reference
 operationOf (setVector k n v) = Management
 
+abbrev pub isRefer : Op → Bool
+isRefer (signal i) = false
+isRefer (acquire p i) = false
+isRefer (send p q w) = false
+isRefer (receive p q) = false
+isRefer (refer k n) = true
+isRefer (setVector k n v) = false
+
 -- a number as it counts objects: what is not positive is 0, which numbers none
 abbrev pub no : ℤ → ℕ
 no (pos n) = n

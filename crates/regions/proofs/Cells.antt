@@ -1,5 +1,5 @@
 -- What the cells of the arrays hold, and one region more. Assumes nothing.
-use Prim.Native.Nat.{ℕ, zero, suc, _+_, _-_, _≤_, _<_}
+use Prim.Native.Nat.{ℕ, _+_, _<_}
 use native.Mathlib.Omega.{arith}
 use mathlib.Core.Path.{_≡_, refl, sym, ap, _∙_}
 use mathlib.Core.List.{List, [], _∷_, _++_, map}
@@ -8,7 +8,6 @@ use Rattle.itron.specs.Limits.{maxRegions}
 use Rattle.arrays.specs.Pad.{pad}
 use Rattle.arrays.proofs.Pads.{pad-get, pad-snoc}
 use Rattle.model.specs.State.{Region, noRegion}
-use Rattle.regions.specs.declared.state.Protection.{Protection}
 use Rattle.regions.specs.declared.state.Regions.{Regions}
 use Rattle.regions.specs.View.{regionsOf}
 use Rattle.regions.specs.Form.{baseOf, sizeOf, protectionOf, noProtection, regionsAs}

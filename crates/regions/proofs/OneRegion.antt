@@ -1,8 +1,8 @@
 -- In a list that fits, at most one region holds an address, and `holder` finds exactly that one. Assumes nothing.
-use Prim.Native.Nat.{ℕ, zero, suc, _+_, _≤_, _<_}
+use Prim.Native.Nat.{ℕ, zero, suc, _≤_, _<_}
 use native.Mathlib.Omega.{arith}
 use mathlib.Core.Path.{_≡_, refl, ap, _∙_}
-use mathlib.Core.Bool.{Bool, true, false, _&&_}
+use mathlib.Core.Bool.{Bool, true, false}
 use mathlib.Core.List.{List, [], _∷_}
 use mathlib.Core.Option.{none, some}
 use lib.Dec.{leb, ltb}
@@ -11,17 +11,14 @@ use borrow.Author.Tests.{leb-true, ltb-true, ltb-false}
 use Rattle.model.specs.State.{Region, noRegion}
 use Rattle.model.specs.Regions.{end, holds, orElse, holder}
 use Rattle.model.specs.Conditions.{Ascending, RegionsFit}
+use Rattle.model.proofs.Lists.{and-left, and-right}
 
 -- a region that holds an address starts at or below it and ends above it
-both : (x y : Bool) → x && y ≡ true → (x ≡ true) × (y ≡ true)
-both true y e = (refl, e)
-both false y e = absurd (let z : _≡_ {A = ℕ} 0 1 = cc in omega arith)
-
 pub holds-start : (a : ℕ) (r : Region) → holds a r ≡ true → r .base ≤ a
-holds-start a r h = leb-true (r .base) a (both (leb (r .base) a) (ltb a (end r)) h .0)
+holds-start a r h = leb-true (r .base) a (and-left (leb (r .base) a) (ltb a (end r)) h)
 
 pub holds-end : (a : ℕ) (r : Region) → holds a r ≡ true → a < end r
-holds-end a r h = ltb-true a (end r) (both (leb (r .base) a) (ltb a (end r)) h .1)
+holds-end a r h = ltb-true a (end r) (and-right (leb (r .base) a) (ltb a (end r)) h)
 
 -- each region ends at or below the start of every later one
 tail : (r : Region) (rs : List Region) → Ascending (r ∷ rs) → Ascending rs

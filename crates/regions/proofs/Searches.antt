@@ -5,11 +5,8 @@ use native.Mathlib.Numerals.{add-one}
 use mathlib.Core.Path.{_≡_, refl, sym, ap, _∙_}
 use mathlib.Core.Bool.{Bool, true, false}
 use mathlib.Core.List.{List, [], _∷_}
-use mathlib.Core.Option.{Option, none, some}
-use lib.Dec.{ltb}
 use lib.ListN.{length, getD, drop, drop-of-length-le}
 use lib.Seq.{drop-cons}
-use borrow.Author.Tests.{ltb-true, ltb-false, lt-ltb, le-ltb}
 use types.Run.{OneOf}
 use denote.Enum.Declared.{tagOf}
 use Rattle.access.specs.Patterns.{pick}
@@ -23,14 +20,6 @@ use Rattle.regions.specs.Held.{Held}
 use Rattle.regions.specs.Search.{coveredBy, lookup, foundIn}
 use Rattle.regions.proofs.search.Found.{the-type as found-type}
 use Rattle.regions.proofs.Cells.{count-of, base-at, size-at}
-
--- an address is below the end when its distance from the start is below the size
-pub by-distance : (start size a : ℕ) → start ≤ a → ltb (a - start) size ≡ ltb a (start + size)
-by-distance start size a l = go (ltb (a - start) size) refl
-  where
-    go : (b : Bool) → ltb (a - start) size ≡ b → b ≡ ltb a (start + size)
-    go true e = sym (lt-ltb a (start + size) (let k = ltb-true (a - start) size e in omega arith))
-    go false e = sym (le-ltb a (start + size) (let k = ltb-false (a - start) size e in omega arith))
 
 module _ (bs ss : List ℕ) (a : ℕ) where
   abbrev test : ℕ → Bool

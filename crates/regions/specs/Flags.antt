@@ -1,4 +1,4 @@
--- Bits by their values (document 01: "the bit value"). Definitions only.
+-- Bits by their values (document 01: "bit value"). Definitions only.
 use Prim.Native.Nat.{ℕ, _/_, _%_}
 use mathlib.Core.Bool.{Bool}
 use lib.Dec.{eqb}

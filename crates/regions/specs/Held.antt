@@ -1,5 +1,5 @@
 -- The condition of the regions' part of the state. Definitions only.
-use Prim.Native.Nat.{ℕ, _≤_}
+use Prim.Native.Nat.{_≤_}
 use mathlib.Core.Path.{_≡_}
 use Rattle.itron.specs.Limits.{maxRegions}
 use Rattle.model.specs.Conditions.{RegionsFit}

@@ -34,26 +34,17 @@ pub struct RegionEntry {
 pub(crate) fn is_attribute(attribute: u32) -> bool
     ensures { λ r. ⌜ r ≡ attributeOk attribute ⌝ }
 {
-    if attribute == 0 {
-        return true;
-    }
-    if attribute == NO_WRITE {
-        return true;
-    }
-    if attribute == EXECUTABLE {
-        return true;
-    }
-    attribute == NO_WRITE + EXECUTABLE
+    (attribute == 0)
+        | (attribute == NO_WRITE)
+        | (attribute == EXECUTABLE)
+        | (attribute == NO_WRITE + EXECUTABLE)
 }
 
 // Whether an area has bytes and ends within the addresses. The sum is made in 64 bits.
 pub(crate) fn is_area(base: u32, size: u32) -> bool
     ensures { λ r. ⌜ r ≡ numbersOk base size ⌝ }
 {
-    if size < 1 {
-        return false;
-    }
-    base as u64 + size as u64 <= ADDRESS_END
+    (1 <= size) & (base as u64 + size as u64 <= ADDRESS_END)
 }
 
 impl Regions {
@@ -74,13 +65,16 @@ impl Regions {
         requires { ⌜ Held self ⌝ }
         ensures { λ r. ⌜ r ≡ resultOf (entryCheck (regionsOf self) attribute base size) ⌝ }
     {
-        if !is_attribute(attribute) {
+        let known = is_attribute(attribute);
+        let fits = is_area(base, size);
+        let free = self.last_end() <= base as u64;
+        if !known {
             return E_RSATR;
         }
-        if !is_area(base, size) {
+        if !fits {
             return E_PAR;
         }
-        if (base as u64) < self.last_end() {
+        if !free {
             return E_OBJ;
         }
         E_OK
@@ -101,11 +95,12 @@ impl Regions {
         let index = self.count;
         self.bases[index] = base;
         self.sizes[index] = size;
-        self.protections[index] = Protection {
+        let protection = Protection {
             domain,
             attribute,
             vector,
         };
+        self.protections[index] = protection;
         self.count = index + 1;
         self
     }

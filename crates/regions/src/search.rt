@@ -10,14 +10,11 @@ pub(crate) enum Found {
     Nothing,
 }
 
-// Whether an area holds an address. By a difference and no sum, since an end may be 2^32.
+// Whether an area holds an address. The sum is made in 64 bits, since an end may be 2^32.
 pub(crate) fn covers(start: u32, size: u32, address: u32) -> bool
     ensures { λ r. ⌜ r ≡ coveredBy start size address ⌝ }
 {
-    if address < start {
-        return false;
-    }
-    address - start < size
+    (start <= address) & ((address as u64) < start as u64 + size as u64)
 }
 
 // The first of `count` regions that holds an address.

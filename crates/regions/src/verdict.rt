@@ -2,7 +2,7 @@
 ghost use mathlib.Core.Path.{_≡_};
 ghost use mathlib.Core.Option.{some};
 ghost use Rattle.model.specs.Answers.{resultOf};
-ghost use Rattle.model.specs.Regions.{end, mayWrite, mayRead, mayExecute, grants, allows, areaOk, judgeIn, judge};
+ghost use Rattle.model.specs.Regions.{end, mayWrite, mayRead, mayExecute, grants, allows, wishesOk, areaOk, judgeIn, judge};
 ghost use Rattle.regions.specs.View.{regionsOf, shownAs};
 ghost use Rattle.regions.specs.Held.{Held};
 use crate::entry::is_area;
@@ -23,17 +23,18 @@ use itron::code::E_OBJ;
 use itron::code::E_OK;
 use itron::code::E_PAR;
 
-// Whether there is a wish and no unknown one, and the area is one.
+// Whether there is a wish and no unknown one.
+pub(crate) fn is_wish(wishes: u32) -> bool
+    ensures { λ r. ⌜ r ≡ wishesOk wishes ⌝ }
+{
+    (1 <= wishes) & (wishes <= WRITE + READ + EXECUTE)
+}
+
+// Whether there is something to judge: an area and a wish.
 pub(crate) fn is_request(base: u32, size: u32, wishes: u32) -> bool
     ensures { λ r. ⌜ r ≡ areaOk base size wishes ⌝ }
 {
-    if wishes < 1 {
-        return false;
-    }
-    if WRITE + READ + EXECUTE < wishes {
-        return false;
-    }
-    is_area(base, size)
+    is_wish(wishes) & is_area(base, size)
 }
 
 // A wish that is not there is granted.
@@ -57,10 +58,7 @@ impl RegionInfo {
     pub(crate) fn may_write(self, domain: i32) -> bool
         ensures { λ r. ⌜ r ≡ mayWrite (shownAs self) domain ⌝ }
     {
-        if has(self.attribute, NO_WRITE) {
-            return false;
-        }
-        admits(self.vector.normal1, domain)
+        !has(self.attribute, NO_WRITE) & admits(self.vector.normal1, domain)
     }
 
     pub(crate) fn may_read(self, domain: i32) -> bool
@@ -72,33 +70,29 @@ impl RegionInfo {
     pub(crate) fn may_execute(self, domain: i32) -> bool
         ensures { λ r. ⌜ r ≡ mayExecute (shownAs self) domain ⌝ }
     {
-        if has(self.attribute, EXECUTABLE) {
-            return admits(self.vector.normal2, domain);
-        }
-        false
+        has(self.attribute, EXECUTABLE) & admits(self.vector.normal2, domain)
     }
 
     // Whether every wish is granted.
     pub(crate) fn allows(self, domain: i32, wishes: u32) -> bool
         ensures { λ r. ⌜ r ≡ allows (shownAs self) domain wishes ⌝ }
     {
-        if !granted(has(wishes, WRITE), self.may_write(domain)) {
-            return false;
-        }
-        if !granted(has(wishes, READ), self.may_read(domain)) {
-            return false;
-        }
-        granted(has(wishes, EXECUTE), self.may_execute(domain))
+        let write = granted(has(wishes, WRITE), self.may_write(domain));
+        let read = granted(has(wishes, READ), self.may_read(domain));
+        let execute = granted(has(wishes, EXECUTE), self.may_execute(domain));
+        write & read & execute
     }
 
     // The verdict on an area that starts in this region.
     pub(crate) fn judge(self, domain: i32, base: u32, size: u32, wishes: u32) -> i32
         ensures { λ r. ⌜ r ≡ resultOf (judgeIn (some (shownAs self)) domain base size wishes) ⌝ }
     {
-        if self.end() < base as u64 + size as u64 {
+        let inside = base as u64 + size as u64 <= self.end();
+        let allowed = self.allows(domain, wishes);
+        if !inside {
             return E_OBJ;
         }
-        if !self.allows(domain, wishes) {
+        if !allowed {
             return E_MACV;
         }
         E_OK

@@ -97,7 +97,13 @@ pub fn signal(tasks: Tasks, semaphores: Semaphores, object: usize) -> Effect
 }
 
 // Poll and wait.
-pub fn acquire(tasks: Tasks, semaphores: Semaphores, task: usize, object: usize, patience: Patience) -> Effect
+pub fn acquire(
+    tasks: Tasks,
+    semaphores: Semaphores,
+    task: usize,
+    object: usize,
+    patience: Patience,
+) -> Effect
     requires { ⌜ TasksHeld.Held tasks × Held semaphores × Free (domainsOf tasks) (waitsOf tasks) task × (object < length (semsOf semaphores)) ⌝ }
     ensures { λ r. ⌜ r ≡ effectAs (domainsOf tasks) (Model.acquire (waitsOf tasks) (semsOf semaphores) (suc task) (suc object) patience) ⌝ }
 {

@@ -1,13 +1,12 @@
 -- What is seen of the form is what it was made of. Assumes nothing.
-use Prim.Native.Nat.{ℕ, suc, _+_, _≤_, _<_}
+use Prim.Native.Nat.{ℕ, suc, _+_, _<_}
 use native.Mathlib.Omega.{arith}
 use mathlib.Core.Path.{_≡_, sym, ap, _∙_, subst₂}
 use mathlib.Core.List.{List, map}
 use lib.IntN.{ℤ, pos}
-use lib.ListN.{length, getD, take, length-map, List·getD-map}
-use lib.Seq.{getD-take}
+use lib.ListN.{length, getD, take, length-map}
 use Rattle.arrays.specs.Pad.{pad}
-use Rattle.arrays.proofs.Pads.{pad-get, pad-take}
+use Rattle.arrays.proofs.Pads.{pad-get, pad-take, pad-length}
 use Rattle.itron.specs.Limits.{maxTasks}
 use Rattle.model.specs.State.{Waiter}
 use Rattle.model.specs.Conditions.{WaitsFit}
@@ -65,3 +64,9 @@ module _ {t : Tasks} (h : Held t) where
   pub entry-seen : (i : ℕ) → i < length (domainsOf t) → getD (t .entries) i noTask ≡ entry (getD (domainsOf t) i (pos 0)) (waitFor (suc i) (waitsOf t))
   unfolding tasksAs
   entry-seen i l = ap (λ (x : Tasks). getD (x .entries) i noTask) (h .form) ∙ entry-at (domainsOf t) (waitsOf t) i l
+
+  pub entries-long : length (t .entries) ≡ maxTasks
+  unfolding tasksAs
+  entries-long =
+      ap (λ (x : Tasks). length (x .entries)) (h .form)
+      ∙ pad-length noTask maxTasks (tasksFrom 0 (domainsOf t) (waitsOf t)) (let n = entries-length 0 (domainsOf t) (waitsOf t) in let l = h .fit .tasks in omega arith)

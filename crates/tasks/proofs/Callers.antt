@@ -40,7 +40,6 @@ outside (pos (suc k)) n h = go (leb (suc k) n) refl h
     go false e q = rw e (and-no (not (eqb (suc k) 0)))
 
 pub record Within (z : ℤ) (n k : ℕ) : Type 0 where
-  pub positive : z ≡ pos (suc (k - 1))
   pub same : no z ≡ suc (k - 1)
   pub low : k - 1 < n
   pub test : not (eqb (no z) 0) && leb (no z) n ≡ true
@@ -51,7 +50,7 @@ within z n k e h =
     let u = ordinal-user z n (k - 1) (sym e ∙ i) in
     let s : no z ≡ suc (k - 1) = ap no (u .0) in
     let l = u .1 in
-    record { positive = u .0; same = s; low = l; test = rw s (rw (ne-eqb (suc (k - 1)) 0 (λ q. omega arith)) (le-leb (suc (k - 1)) n (omega arith))) }
+    record { same = s; low = l; test = rw s (rw (ne-eqb (suc (k - 1)) 0 (λ q. omega arith)) (le-leb (suc (k - 1)) n (omega arith))) }
 
 -- ---- who calls
 module _ {t : Tasks} (h : Held t) (z : ℤ) where

@@ -1,9 +1,9 @@
 -- Each change of the arrays is the change of what is seen. Assumes nothing.
-use Prim.Native.Nat.{ℕ, zero, suc, _+_, _≤_, _<_}
+use Prim.Native.Nat.{ℕ, suc, _+_, _<_}
 use native.Mathlib.Omega.{arith}
 use mathlib.Core.Path.{_≡_, refl, sym, ap, _∙_}
 use mathlib.Core.Logic.{_≢_}
-use mathlib.Core.Bool.{Bool, true, false}
+use mathlib.Core.Bool.{false}
 use mathlib.Core.List.{List, [], _∷_, _++_, map}
 use lib.IntN.{ℤ, pos}
 use lib.ListN.{length, getD, take, set, length-map, length-append}
@@ -17,15 +17,16 @@ use Rattle.model.proofs.Sound.{few, waits-join}
 use Rattle.tasks.specs.declared.task.Wait.{Wait}
 use Rattle.tasks.specs.declared.task.Wait.the-variants.{Ready, OnSem, Receiving, Sending}
 use Rattle.tasks.specs.declared.task.Task.{Task}
+use Rattle.tasks.specs.declared.order.Order.{Order}
 use Rattle.tasks.specs.declared.state.Tasks.{Tasks}
-use Rattle.tasks.specs.View.{noTask, domainOf, domainsOf, waitsOf, waiterOf}
+use Rattle.tasks.specs.View.{noTask, withWait, domainsOf, waitsOf, waiterOf}
 use Rattle.tasks.specs.Form.{tasksAs, tasksFrom, waitFor, waitIn, indexIn}
 use Rattle.tasks.specs.Held.{Held, Free, isReady}
-use Rattle.tasks.specs.Orders.{without}
+use Rattle.tasks.specs.Orders.{orderOf, without}
 use Rattle.tasks.proofs.Waits.{wait-snoc, wait-snoc-other, wait-gone, wait-stays}
 use Rattle.tasks.proofs.Entries.{entry, entries-length, entries-set, entries-snoc}
 use Rattle.tasks.proofs.Orders.{order-gone, order-snoc}
-use Rattle.tasks.proofs.Back.{entry-at, count-seen, waiting-seen}
+use Rattle.tasks.proofs.Back.{entry-at, waiting-seen}
 
 -- ---- the tasks with some fields replaced
 abbrev pub withWaits : Tasks → List Task → ℕ → List ℕ → Tasks
@@ -33,9 +34,9 @@ withWaits t ts n o = record { count = t .count; entries = ts; waiting = n; order
 
 -- one task does something else
 abbrev pub doing : List Task → ℕ → Wait → List Task
-doing ts t w = set ts t (entry (getD ts t noTask .domain) w)
+doing ts t w = set ts t (withWait (getD ts t noTask) w)
 
-abbrev others : Tasks → ℕ → List ℕ
+abbrev pub others : Tasks → ℕ → List ℕ
 others t i = without i (take (t .waiting) (t .order))
 
 abbrev pub released : Tasks → ℕ → Tasks
@@ -54,8 +55,7 @@ module _ (ds : List ℤ) (ws l : List Waiter) where
   entries-form i w h e f =
       let ts = tasksFrom 0 ds ws in
       let z : 0 + i ≡ i = omega arith in
-      let g = ap domainOf (entry-at ds ws i h) in
-      ap (λ (d : ℤ). set (pad maxTasks noTask ts) i (entry d w)) g
+      ap (λ (x : Task). set (pad maxTasks noTask ts) i (withWait x w)) (entry-at ds ws i h)
       ∙ pad-set noTask maxTasks ts i (entry (getD ds i (pos 0)) w) (let q = entries-length 0 ds ws in omega arith)
       ∙ ap (pad maxTasks noTask) (entries-set 0 ds ws l i w h (ap (λ (k : ℕ). waitFor (suc k) l) z ∙ e) (λ u k. f u (λ q. k (q ∙ ap suc (sym z)))))
 
@@ -114,11 +114,18 @@ add-form ds ws d h e =
 
 -- ---- on any tasks that are held
 module _ {t : Tasks} (h : Held t) where
-  pub release-link : (i : ℕ) → i < length (domainsOf t) → released t i ≡ tasksAs (domainsOf t) (leave (suc i) (waitsOf t))
-  release-link i l = ap (λ (x : Tasks). released x i) (h .form) ∙ release-form (domainsOf t) (waitsOf t) (h .fit) i l
+  -- with the task's new entry, and the order without it
+  pub release-link : (i : ℕ) (x : Task) (o : Order) → i < length (domainsOf t) → x ≡ withWait (getD (t .entries) i noTask) Ready → o ≡ orderOf (others t i)
+      → withWaits t (set (t .entries) i x) (o .count) (o .entries) ≡ tasksAs (domainsOf t) (leave (suc i) (waitsOf t))
+  release-link i x o l e f =
+      (λ j. withWaits t (set (t .entries) i (e j)) (f j .count) (f j .entries))
+      ∙ ap (λ (y : Tasks). released y i) (h .form) ∙ release-form (domainsOf t) (waitsOf t) (h .fit) i l
 
-  pub join-link : (i : ℕ) (w : Wait) → Free (domainsOf t) (waitsOf t) i → isReady w ≡ false → joined t i w ≡ tasksAs (domainsOf t) (join (waiterOf (suc i) w) (waitsOf t))
-  join-link i w k b = ap (λ (x : Tasks). joined x i w) (h .form) ∙ join-form (domainsOf t) (waitsOf t) (h .fit) i k w b
+  pub join-link : (i : ℕ) (w : Wait) (x : Task) → Free (domainsOf t) (waitsOf t) i → isReady w ≡ false → x ≡ withWait (getD (t .entries) i noTask) w
+      → withWaits t (set (t .entries) i x) (t .waiting + 1) (set (t .order) (t .waiting) i) ≡ tasksAs (domainsOf t) (join (waiterOf (suc i) w) (waitsOf t))
+  join-link i w x k b e =
+      (λ j. withWaits t (set (t .entries) i (e j)) (t .waiting + 1) (set (t .order) (t .waiting) i))
+      ∙ ap (λ (y : Tasks). joined y i w) (h .form) ∙ join-form (domainsOf t) (waitsOf t) (h .fit) i k w b
 
   pub add-link : (d : ℤ) → length (domainsOf t) < maxTasks → waitsOf t ≡ [] → added t d ≡ tasksAs (domainsOf t ++ (d ∷ [])) (waitsOf t)
   add-link d l e = ap (λ (x : Tasks). added x d) (h .form) ∙ add-form (domainsOf t) (waitsOf t) d l e

@@ -1,15 +1,15 @@
--- Who is first at a place, read from the arrays. Assumes nothing.
-use Prim.Native.Nat.{ℕ, zero, suc, _+_, _≤_, _<_}
+-- Who is first at a place. Assumes nothing.
+use Prim.Native.Nat.{ℕ, zero, suc, _-_, _<_}
 use native.Mathlib.Omega.{arith}
 use mathlib.Core.Path.{_≡_, refl, sym, ap, _∙_}
-use mathlib.Core.Bool.{Bool, true, false}
+use mathlib.Core.Logic.{_≢_}
 use mathlib.Core.List.{List, [], _∷_, map}
 use lib.ListN.{length, getD, take}
 use types.Run.{OneOf}
 use denote.Enum.Declared.{tagOf}
 use Rattle.arrays.specs.Pad.{index}
-use Rattle.model.specs.Lists.{keep, All}
-use Rattle.model.specs.State.{Waiter, Place, samePlace}
+use Rattle.model.specs.Lists.{All}
+use Rattle.model.specs.State.{Waiter, Place}
 use Rattle.model.specs.Waits.{standsAt, waitersIn, firstTask}
 use Rattle.model.specs.Conditions.{Known}
 use Rattle.model.proofs.Lists.{all-keep}
@@ -19,42 +19,12 @@ use Rattle.tasks.specs.declared.wait.First.{First}
 use Rattle.tasks.specs.declared.wait.First.the-variants.{Nobody, Waiter as FirstIs}
 use Rattle.tasks.specs.View.{noTask, waiterOf, waiterAt, domainsOf, waitsOf}
 use Rattle.tasks.specs.Held.{Held}
-use Rattle.tasks.specs.Ends.{firstOf}
+use Rattle.tasks.specs.Ends.{firstOf, taskIn}
 use Rattle.tasks.proofs.wait.First.{the-type as first-type}
 use Rattle.tasks.proofs.Waits.{number-back}
-use Rattle.tasks.proofs.Places.{place-any, word-any, task-any}
+use Rattle.tasks.proofs.Places.{word-any, task-any}
 
--- ---- the search
-module _ (ts : List Task) (p : Place) where
-  -- whether the task with an index stands at the place
-  abbrev pub standsIn : ℕ → Bool
-  standsIn i = samePlace p (waiterOf 0 (getD ts i noTask .wait) .place)
-
-  -- none of the first i in the order stands at the place
-  abbrev pub Passed : List ℕ → ℕ → Type 0
-  Passed o i = (k : ℕ) → k < i → standsIn (getD o k 0) ≡ false
-
-  pub stands : (i : ℕ) (b : Bool) → standsIn i ≡ b → standsAt p (waiterAt ts i) ≡ b
-  stands i b h = ap (samePlace p) (place-any (suc i) (getD ts i noTask .wait)) ∙ h
-
-  pub first-none : (o : List ℕ) (w : ℕ) → w ≤ length o → Passed o w → Nobody ≡ firstOf (keep (standsAt p) (map (waiterAt ts) (take w o)))
-  first-none o zero l f = refl
-  first-none [] (suc w) l f = absurd (omega arith)
-  first-none (x ∷ o) (suc w) l f = rw (stands x false (f 0 (omega arith))) (first-none o w (omega arith) (λ k h. f (suc k) (omega arith)))
-
-  pub first-found : (o : List ℕ) (w i : ℕ) → i < w → w ≤ length o → Passed o i → standsIn (getD o i 0) ≡ true
-      → FirstIs (getD o i 0) (waiterOf 0 (getD ts (getD o i 0) noTask .wait) .word) ≡ firstOf (keep (standsAt p) (map (waiterAt ts) (take w o)))
-  first-found o zero i h l f e = absurd (omega arith)
-  first-found [] (suc w) i h l f e = absurd (omega arith)
-  first-found (x ∷ o) (suc w) zero h l f e =
-      let n = getD ts x noTask .wait in
-      let a = sym (task-any (suc x) n) in
-      let b = sym (word-any (suc x) n) in
-      rw (stands x true e) (λ j. FirstIs (index (a j)) (b j))
-  first-found (x ∷ o) (suc w) (suc i) h l f e =
-      rw (stands x false (f 0 (omega arith))) (first-found o w i (omega arith) (omega arith) (λ k q. f (suc k) (omega arith)) e)
-
--- ---- what was found
+-- ---- from what was found
 pub no-first : (l : List Waiter) (r : First) → r ≡ firstOf l → OneOf (0 ∷ []) (tagOf first-type r) → l ≡ []
 no-first [] r e t = refl
 no-first (x ∷ l) Nobody e t = absurd (let z : _≡_ {A = ℕ} 0 1 = cc in omega arith)
@@ -80,5 +50,38 @@ waits {t} h p i w e = go (waitersIn (waitsOf t) p) refl e (all-keep (Known (leng
         let b = k .0 .1 in
         record { entry = x; rest = l; list = q; task = n; word = cc; low = omega arith }
 
-pub first-number : {t : Tasks} {p : Place} {i w : ℕ} → Waits t p i w → i + 1 ≡ firstTask (waitersIn (waitsOf t) p)
-first-number {t} {p} {i} x = let n : i + 1 ≡ suc i = omega arith in n ∙ sym (ap firstTask (x .list) ∙ x .task)
+-- ---- from the number of the one with nobody ahead
+pub first-task : (l : List Waiter) → getD (map taskIn l) 0 0 ≡ firstTask l
+first-task [] = refl
+first-task (x ∷ l) = refl
+
+-- each of those who wait is the one that its own entry shows
+abbrev Shown : List Task → Waiter → Type 0
+Shown ts e = waiterAt ts (index (e .task)) ≡ e
+
+shown : (ts : List Task) (o : List ℕ) → All (Shown ts) (map (waiterAt ts) o)
+shown ts [] = tt
+shown ts (i ∷ o) = (ap (λ (n : ℕ). waiterAt ts (index n)) (task-any (suc i) (getD ts i noTask .wait)), shown ts o)
+
+module _ {t : Tasks} (h : Held t) (p : Place) (n : ℕ) (e : n ≡ getD (map taskIn (waitersIn (waitsOf t) p)) 0 0) where
+  pub first-none : n ≡ 0 → Nobody ≡ firstOf (waitersIn (waitsOf t) p)
+  first-none z = go (waitersIn (waitsOf t) p) e (all-keep (Known (length (domainsOf t))) (standsAt p) (waitsOf t) (h .fit .known))
+    where
+      go : (l : List Waiter) → n ≡ getD (map taskIn l) 0 0 → All (Known (length (domainsOf t))) l → Nobody ≡ firstOf l
+      go [] e k = refl
+      go (x ∷ l) e k = absurd (k .0 .0 (sym e ∙ z))
+
+  pub first-found : n ≢ 0 → FirstIs (n - 1) (waiterOf 0 (getD (t .entries) (n - 1) noTask .wait) .word) ≡ firstOf (waitersIn (waitsOf t) p)
+  unfolding waitsOf
+  first-found z = go (waitersIn (waitsOf t) p) e (all-keep (Shown (t .entries)) (standsAt p) (waitsOf t) (shown (t .entries) (take (t .waiting) (t .order))))
+    where
+      less : (k : ℕ) → k ≢ 0 → k - 1 ≡ index k
+      less zero h = absurd (h refl)
+      less (suc k) h = omega arith
+
+      go : (l : List Waiter) → n ≡ getD (map taskIn l) 0 0 → All (Shown (t .entries)) l → FirstIs (n - 1) (waiterOf 0 (getD (t .entries) (n - 1) noTask .wait) .word) ≡ firstOf l
+      go [] e k = absurd (z e)
+      go (x ∷ l) e k =
+          let i : n - 1 ≡ index (x .task) = less n z ∙ ap index e in
+          let w = ap (λ (j : ℕ). waiterOf 0 (getD (t .entries) j noTask .wait) .word) i ∙ sym (word-any (suc (index (x .task))) (getD (t .entries) (index (x .task)) noTask .wait)) ∙ ap (λ (y : Waiter). y .word) (k .0) in
+          λ j. FirstIs (i j) (w j)

@@ -4,6 +4,7 @@ pub mod Orders
 pub mod Back
 pub mod Changes
 pub mod Places
+pub mod Waiters
 pub mod Firsts
 pub mod Callers
 pub mod Ends

@@ -18,7 +18,6 @@ use Rattle.model.specs.State.{Waiter}
 use Rattle.model.specs.Waits.{isOther}
 use Rattle.model.specs.Conditions.{Known}
 use Rattle.model.proofs.Lists.{eq-of, ne-of, eqb-same, eqb-no, keep-append}
-use Rattle.tasks.specs.declared.order.Order.{Order}
 use Rattle.tasks.specs.Form.{indexIn}
 use Rattle.tasks.specs.Orders.{orderOf, without, keptOf, notIndex}
 

@@ -14,8 +14,7 @@ use Rattle.model.specs.Conditions.{Distinct, Plain, WordFits}
 use Rattle.model.specs.declared.Side.{Side}
 use Rattle.model.specs.declared.Side.the-variants.{OnSem as onSem, Receiving as receiving, Sending as sending}
 use Rattle.model.proofs.Lists.{eq-of, eqb-same, eqb-no, eqb-sym, and-left, and-right}
-use Rattle.tasks.specs.declared.task.Wait.{Wait}
-use Rattle.tasks.specs.declared.task.Wait.the-variants.{Ready, OnSem, Receiving, Sending}
+use Rattle.tasks.specs.declared.task.Wait.the-variants.{Ready}
 use Rattle.tasks.specs.View.{waiterOf}
 use Rattle.tasks.specs.Form.{waitAs, waitIn, waitFor}
 use Rattle.tasks.specs.Held.{isReady}

@@ -1,5 +1,5 @@
 -- What the functions on the tasks give. Definitions only.
-use Prim.Native.Nat.{ℕ, zero, suc}
+use Prim.Native.Nat.{ℕ, suc}
 use mathlib.Core.Bool.{Bool, not, _&&_}
 use mathlib.Core.List.{List, [], _∷_}
 use lib.Dec.{eqb, leb}
@@ -27,6 +27,7 @@ abbrev pub firstOf : List Waiter → First
 firstOf [] = Nobody
 firstOf (e ∷ l) = FirstIs (index (e .task)) (e .word)
 
+-- the number of a waiting task
 abbrev pub taskIn : Waiter → ℕ
 taskIn e = e .task
 

@@ -1,5 +1,5 @@
 -- What is seen of the tasks: their domains, and who waits. Definitions only.
-use Prim.Native.Nat.{ℕ, zero, suc}
+use Prim.Native.Nat.{ℕ, suc}
 use mathlib.Core.List.{List, map}
 use lib.IntN.{ℤ, pos}
 use lib.ListN.{getD, take}
@@ -13,6 +13,10 @@ use Rattle.tasks.specs.declared.state.Tasks.{Tasks}
 -- what an unused cell holds
 abbrev pub noTask : Task
 noTask = record { domain = pos 0; wait = Ready }
+
+-- the same task, which does something else
+abbrev pub withWait : Task → Wait → Task
+withWait t w = record { domain = t .domain; wait = w }
 
 -- a waiting task: its number, where it waits, and its word
 abbrev pub waiterOf : ℕ → Wait → Waiter

@@ -1,6 +1,6 @@
 // The order in which those who wait began to.
 ghost use mathlib.Core.Path.{_≡_};
-ghost use Prim.Native.Nat.{ℕ, _≤_, _<_};
+ghost use Prim.Native.Nat.{_≤_, _<_};
 ghost use lib.ListN.{take};
 ghost use Rattle.itron.specs.Limits.{maxTasks};
 ghost use Rattle.tasks.specs.Orders.{keptOf, orderOf, without};

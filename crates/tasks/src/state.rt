@@ -1,11 +1,11 @@
 // All tasks, and those of them who wait in the order in which they began to.
 ghost use mathlib.Core.Path.{_≡_};
-ghost use mathlib.Core.Bool.{false, true};
+ghost use mathlib.Core.Bool.{false};
 ghost use mathlib.Core.List.{[], _∷_, _++_};
-ghost use Prim.Native.Nat.{ℕ, suc, _≤_, _<_};
+ghost use Prim.Native.Nat.{suc, _<_};
 ghost use lib.ListN.{length};
 ghost use Rattle.itron.specs.Limits.{maxTasks};
-ghost use Rattle.model.specs.Waits.{absent, leave, join};
+ghost use Rattle.model.specs.Waits.{leave, join};
 ghost use Rattle.tasks.specs.View.{domainsOf, waitsOf, waiterOf};
 ghost use Rattle.tasks.specs.Form.{tasksAs};
 ghost use Rattle.tasks.specs.Held.{Held, Free, isReady};
@@ -93,10 +93,8 @@ impl Tasks {
         self.order = entries;
         self.waiting = rest.count;
         let old = self.entries[task];
-        self.entries[task] = Task {
-            domain: old.domain,
-            wait: Wait::Ready,
-        };
+        let ready = old.with_wait(Wait::Ready);
+        self.entries[task] = ready;
         self
     }
 
@@ -108,10 +106,8 @@ impl Tasks {
         let at = self.waiting;
         self.order[at] = task;
         let old = self.entries[task];
-        self.entries[task] = Task {
-            domain: old.domain,
-            wait,
-        };
+        let waiter = old.with_wait(wait);
+        self.entries[task] = waiter;
         self.waiting = at + 1;
         self
     }

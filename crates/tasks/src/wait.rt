@@ -1,8 +1,8 @@
 // Wait queues: who is first at a place, who calls, who is woken and who begins to wait.
 ghost use mathlib.Core.Path.{_≡_};
-ghost use mathlib.Core.Bool.{false, true};
+ghost use mathlib.Core.Bool.{false};
 ghost use mathlib.Core.List.{[], map};
-ghost use Prim.Native.Nat.{ℕ, suc, _≤_, _<_};
+ghost use Prim.Native.Nat.{ℕ, suc, _<_};
 ghost use lib.ListN.{length, getD};
 ghost use Rattle.model.specs.State.{place, samePlace};
 ghost use Rattle.model.specs.Waits.{waitersIn, firstTask, orWaits};
@@ -83,24 +83,43 @@ pub(crate) fn word_of(wait: Wait) -> u32
 }
 
 impl Tasks {
-    // The first who waits at a place.
-    pub fn first(self, side: Side, object: usize) -> First
+    // The number of the one who waits at a place with k ahead of it; 0 if no more than k do.
+    pub fn waiter(self, side: Side, object: usize, k: usize) -> usize
         requires { ⌜ Held self ⌝ }
-        ensures { λ r. ⌜ r ≡ firstOf (waitersIn (waitsOf self) (place side (suc object))) ⌝ }
+        ensures { λ r. ⌜ r ≡ getD (map taskIn (waitersIn (waitsOf self) (place side (suc object)))) k 0 ⌝ }
     {
         let entries = self.entries;
         let order = self.order;
         let waiting = self.waiting;
+        let mut ahead = k;
         let mut i = 0;
         while i < waiting {
             let task = order[i];
             let wait = wait_of(entries, task);
             if waits_at(wait, side, object) {
-                return First::Waiter(task, word_of(wait));
+                if ahead == 0 {
+                    return task + 1;
+                }
+                ahead -= 1;
             }
             i += 1;
         }
-        First::Nobody
+        0
+    }
+
+    // The first who waits at a place.
+    pub fn first(self, side: Side, object: usize) -> First
+        requires { ⌜ Held self ⌝ }
+        ensures { λ r. ⌜ r ≡ firstOf (waitersIn (waitsOf self) (place side (suc object))) ⌝ }
+    {
+        let number = self.waiter(side, object, 0);
+        if number == 0 {
+            return First::Nobody;
+        }
+        let task = number - 1;
+        let entries = self.entries;
+        let wait = wait_of(entries, task);
+        First::Waiter(task, word_of(wait))
     }
 
     // The number of the first who waits at a place; 0 if nobody does.
@@ -108,10 +127,7 @@ impl Tasks {
         requires { ⌜ Held self ⌝ }
         ensures { λ r. ⌜ r ≡ firstTask (waitersIn (waitsOf self) (place side (suc object))) ⌝ }
     {
-        match self.first(side, object) {
-            First::Waiter(task, _) => task + 1,
-            First::Nobody => 0,
-        }
+        self.waiter(side, object, 0)
     }
 
     // Who calls under a number: only a registered ready task may.

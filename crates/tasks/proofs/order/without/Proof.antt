@@ -1,3 +1,4 @@
+-- `order::without` meets its contract. The loop's invariant: what is kept of the entries passed. Assumes nothing.
 use borrow.Author.Needs.{needs}
 use Prim.Native.Nat.{_≤_, _-_}
 use native.Mathlib.Omega.{arith}
@@ -9,9 +10,6 @@ use Rattle.tasks.specs.Orders.{orderOf, without, keptOf}
 use Rattle.tasks.proofs.Orders.{without-few, without-step}
 use Rattle.tasks.proofs.order.without.Statement.{statement}
 use Rattle.tasks.proofs.order.without.Tie as tie
-use Rattle.tasks.proofs.order.without.Reads as reads
-use Rattle.tasks.proofs.order.without.Lts as lts
-use Rattle.tasks.proofs.order.Order.kept.Reads as kept-reads
 
 abbrev Inv-loop : tie.InvT-loop
 Inv-loop waiting left order rest₀ i₀ rest i = (i ≤ waiting) × (rest ≡ orderOf (without left (take i order)))
@@ -19,34 +17,27 @@ Inv-loop waiting left order rest₀ i₀ rest i = (i ≤ waiting) × (rest ≡ o
 abbrev μ-loop : tie.MeasureT-loop
 μ-loop waiting left order rest₀ i₀ rest i = waiting - i
 
--- src/order.rt:41:5
 loop-holds : tie.Need-loop-holds Inv-loop μ-loop
 loop-holds c = (omega arith, refl)
 
--- src/order.rt:42:20
 mul-task : tie.Need-mul-task Inv-loop μ-loop
 mul-task c = omega arith
 
--- src/order.rt:42:20
 array-read-task : tie.Need-array-read-task Inv-loop μ-loop
 array-read-task c = omega arith
 
--- src/order.rt:43:9
 kept-requires : tie.Need-kept-requires Inv-loop μ-loop
 kept-requires c κs =
     let a = c .before .before .args in
     let n = ap (λ (o : Order). o .count) (c .before .loop .inv .1) in
     omega (arith, n, without-few (a .left) (c .before .loop .i) (a .t1))
 
--- src/order.rt:44:9
 add-i : tie.Need-add-i Inv-loop μ-loop
 add-i c = omega arith
 
--- src/order.rt:41:5
 loop-less : tie.Need-loop-less Inv-loop μ-loop
 loop-less c = omega arith
 
--- src/order.rt:41:5
 loop-again : tie.Need-loop-again Inv-loop μ-loop
 loop-again c =
     let a = c .before .before .before .args in
@@ -54,7 +45,6 @@ loop-again c =
     let l : length (a .t1) ≡ maxTasks = search needs in
     (omega arith, c .kept .ensures ∙ ap (λ (o : Order). keptOf o (getD (a .t1) i 0) (a .left)) (c .before .before .loop .inv .1) ∙ without-step (a .left) i (a .t1) (omega arith) (omega arith))
 
--- src/order.rt:32:1
 returns : tie.Need-returns Inv-loop μ-loop
 returns c =
     let e : c .before .loop .i ≡ c .before .before .args .waiting = omega arith in

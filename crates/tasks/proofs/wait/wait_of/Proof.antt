@@ -1,3 +1,4 @@
+-- `wait::wait_of` meets its contract: past the end, within. Assumes nothing.
 use borrow.Author.Needs.{needs}
 use Prim.Native.Nat.{_≤_}
 use native.Mathlib.Omega.{arith}
@@ -8,25 +9,19 @@ use Rattle.tasks.specs.declared.task.Task.{Task}
 use Rattle.tasks.specs.View.{noTask}
 use Rattle.tasks.proofs.wait.wait_of.Statement.{statement}
 use Rattle.tasks.proofs.wait.wait_of.Tie as tie
-use Rattle.tasks.proofs.wait.wait_of.Reads as reads
-use Rattle.tasks.proofs.wait.wait_of.Lts as lts
 
--- src/wait.rt:49:9
 returns : tie.Need-returns
 returns c =
     let l : length (c .before .args .t1) ≡ maxTasks = search needs in
     let h : length (c .before .args .t1) ≤ c .before .args .index = omega arith in
     sym (ap (λ (t : Task). t .wait) (List·getD-eq-default (c .before .args .t1) noTask h))
 
--- src/wait.rt:51:16
 mul-task : tie.Need-mul-task
 mul-task c = search needs
 
--- src/wait.rt:51:16
 array-copy-out-task : tie.Need-array-copy-out-task
 array-copy-out-task c = search needs
 
--- src/wait.rt:45:1
 returns-2 : tie.Need-returns-2
 returns-2 c = search needs
 

@@ -1,19 +1,15 @@
+-- `wait::word_of` meets its contract: a sender, any other. Assumes nothing.
 use borrow.Author.Needs.{needs}
 use Rattle.tasks.proofs.Places.{no-word}
 use Rattle.tasks.proofs.wait.word_of.Statement.{statement}
 use Rattle.tasks.proofs.wait.word_of.Tie as tie
-use Rattle.tasks.proofs.wait.word_of.Reads as reads
-use Rattle.tasks.proofs.wait.word_of.Lts as lts
 
--- src/wait.rt:80:26
 enum-known-wait : tie.Need-enum-known-wait
 enum-known-wait c = search needs
 
--- src/wait.rt:76:1
 returns : tie.Need-returns
 returns c = search needs
 
--- src/wait.rt:76:1
 returns-2 : tie.Need-returns-2
 returns-2 c = no-word (c .before .args .wait) (c .match .keys2)
 

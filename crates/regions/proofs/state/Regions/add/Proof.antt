@@ -1,4 +1,4 @@
--- `Regions::add` meets its contract: the first free cell of each array is `length (regionsOf self)`. Assumes nothing.
+-- `Regions::add` meets its contract: the region goes into the first free cell of each array. Assumes nothing.
 use borrow.Author.Needs.{needs}
 use native.Mathlib.Omega.{arith}
 use mir.Facts.{toZ-ofZ}
@@ -19,11 +19,11 @@ mul-self-2 c = search needs
 element-write-self-2 : tie.Need-element-write-self-2
 element-write-self-2 c = let e = count-of (c .pre .0) in omega arith
 
-mul-t9 : tie.Need-mul-t9
-mul-t9 c = search needs
+mul-protection : tie.Need-mul-protection
+mul-protection c = search needs
 
-element-set-from-self : tie.Need-element-set-from-self
-element-set-from-self c = let e = count-of (c .pre .0) in omega arith
+element-set-from-protection : tie.Need-element-set-from-protection
+element-set-from-protection c = let e = count-of (c .pre .0) in omega arith
 
 add-self : tie.Need-add-self
 add-self c = search needs
@@ -41,7 +41,7 @@ add-spec =
     element-write-self
     mul-self-2
     element-write-self-2
-    mul-t9
-    element-set-from-self
+    mul-protection
+    element-set-from-protection
     add-self
     returns)

@@ -1,27 +1,21 @@
+-- `Order::kept` meets its contract: the task left out, any other. Assumes nothing.
 use borrow.Author.Needs.{needs}
 use borrow.Author.Tests.{eq-eqb, ne-eqb}
 use Rattle.tasks.proofs.order.Order.kept.Statement.{statement}
 use Rattle.tasks.proofs.order.Order.kept.Tie as tie
-use Rattle.tasks.proofs.order.Order.kept.Reads as reads
-use Rattle.tasks.proofs.order.Order.kept.Lts as lts
 
--- src/order.rt:22:13
 returns : tie.Need-returns
 returns c = rw (eq-eqb _ _ (c .if1 .taken))
 
--- src/order.rt:25:9
 mul-self : tie.Need-mul-self
 mul-self c = search needs
 
--- src/order.rt:25:9
 element-write-self : tie.Need-element-write-self
 element-write-self c = search needs
 
--- src/order.rt:26:22
 add-self : tie.Need-add-self
 add-self c = search needs
 
--- src/order.rt:17:5
 returns-2 : tie.Need-returns-2
 returns-2 c = rw (ne-eqb _ _ (c .if1 .left))
 

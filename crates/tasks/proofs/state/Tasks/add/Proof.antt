@@ -1,27 +1,21 @@
+-- `Tasks::add` meets its contract. Assumes nothing.
 use borrow.Author.Needs.{needs}
 use native.Mathlib.Omega.{arith}
-use mathlib.Core.Path.{_≡_}
 use mir.Facts.{toZ-ofZ}
 use Rattle.tasks.proofs.Back.{count-seen}
 use Rattle.tasks.proofs.Changes.{add-link}
 use Rattle.tasks.proofs.state.Tasks.add.Statement.{statement}
 use Rattle.tasks.proofs.state.Tasks.add.Tie as tie
-use Rattle.tasks.proofs.state.Tasks.add.Reads as reads
-use Rattle.tasks.proofs.state.Tasks.add.Lts as lts
 
--- src/state.rt:56:9
 mul-t7 : tie.Need-mul-t7
 mul-t7 c = search needs
 
--- src/state.rt:56:9
 element-set-from-self : tie.Need-element-set-from-self
 element-set-from-self c = let n = count-seen (c .pre .0) in omega arith
 
--- src/state.rt:60:22
 add-self : tie.Need-add-self
 add-self c = search needs
 
--- src/state.rt:51:5
 returns : tie.Need-returns
 returns c = rw (toZ-ofZ (c .fits .domain)) (add-link (c .pre .0) (c .args .domain) (c .pre .1) (c .pre .2))
 

@@ -1,3 +1,4 @@
+-- `Tasks::caller` meets its contract: no task's number, a ready task, a waiting one. Assumes nothing.
 use borrow.Author.Needs.{needs}
 use Prim.Native.Nat.{_-_}
 use native.Mathlib.Omega.{arith}
@@ -14,11 +15,7 @@ use Rattle.tasks.proofs.Places.{idle, busy}
 use Rattle.tasks.proofs.Callers.{caller-none, caller-busy, caller-ready}
 use Rattle.tasks.proofs.state.Tasks.caller.Statement.{statement}
 use Rattle.tasks.proofs.state.Tasks.caller.Tie as tie
-use Rattle.tasks.proofs.state.Tasks.caller.Reads as reads
-use Rattle.tasks.proofs.state.Tasks.caller.Lts as lts
-use Rattle.access.proofs.domain.ordinal.Reads as ordinal-reads
 
--- src/wait.rt:122:13
 ordinal-requires : tie.Need-ordinal-requires
 ordinal-requires c κs = search needs
 
@@ -26,27 +23,21 @@ ordinal-requires c κs = search needs
 number : (c : tie.After-ordinal) → c .ordinal .result ≡ ordinalOf (c .before .args .number) (c .before .args .t1 .count)
 number c = rw (toZ-ofZ (c .before .fits .number)) at (c .ordinal .ensures)
 
--- src/wait.rt:124:13
 returns : tie.Need-returns
 returns c = let p = c .before in caller-none (p .before .pre) (p .before .args .number) (sym (number p) ∙ c .if1 .taken)
 
--- src/wait.rt:126:20
 sub-task : tie.Need-sub-task
 sub-task c = search needs
 
--- src/wait.rt:127:21
 mul-entry : tie.Need-mul-entry
 mul-entry c = let a = c .before .before in omega (arith, number (c .before), ordinal-le (a .args .number) (a .args .t1 .count), a .pre .few)
 
--- src/wait.rt:127:21
 element-copy-out-entry : tie.Need-element-copy-out-entry
 element-copy-out-entry c = let a = c .before .before in omega (arith, number (c .before), ordinal-le (a .args .number) (a .args .t1 .count), a .pre .few)
 
--- src/wait.rt:130:28
 enum-told : tie.Need-enum-told
 enum-told c = search needs
 
--- src/wait.rt:118:5
 returns-2 : tie.Need-returns-2
 returns-2 c =
     let p = c .before .before .before .before .before in
@@ -56,7 +47,6 @@ returns-2 c =
     ap (Caller.Ready (p .ordinal .result - 1)) e
     ∙ caller-ready (b .pre) (b .args .number) (p .ordinal .result) (number p) (c .before .before .before .before .if1 .left) (idle (getD (s .entries) (p .ordinal .result - 1) noTask .wait) (c .before .before .match .keys1))
 
--- src/wait.rt:118:5
 returns-3 : tie.Need-returns-3
 returns-3 c =
     let p = c .before .before .before in

@@ -1,11 +1,9 @@
+-- `Tasks::empty` meets its contract. Assumes nothing.
 use mathlib.Core.Path.{refl}
 use Rattle.tasks.specs.Form.{tasksAs}
 use Rattle.tasks.proofs.state.Tasks.empty.Statement.{statement}
 use Rattle.tasks.proofs.state.Tasks.empty.Tie as tie
-use Rattle.tasks.proofs.state.Tasks.empty.Reads as reads
-use Rattle.tasks.proofs.state.Tasks.empty.Lts as lts
 
--- src/state.rt:28:5
 returns : tie.Need-returns
 unfolding tasksAs
 returns c = refl

@@ -1,10 +1,8 @@
+-- `Tasks::len` meets its contract. Assumes nothing.
 use Rattle.tasks.proofs.Back.{count-seen}
 use Rattle.tasks.proofs.state.Tasks.len.Statement.{statement}
 use Rattle.tasks.proofs.state.Tasks.len.Tie as tie
-use Rattle.tasks.proofs.state.Tasks.len.Reads as reads
-use Rattle.tasks.proofs.state.Tasks.len.Lts as lts
 
--- src/state.rt:43:5
 returns : tie.Need-returns
 returns c = count-seen (c .pre)
 

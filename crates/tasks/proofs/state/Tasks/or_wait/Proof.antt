@@ -1,33 +1,25 @@
+-- `Tasks::or_wait` meets its contract: a poll, a wait. Assumes nothing.
 use borrow.Author.Needs.{needs}
 use Prim.Native.Nat.{suc}
-use mathlib.Core.Path.{_≡_}
 use Rattle.tasks.specs.View.{waiterOf}
 use Rattle.tasks.proofs.Ends.{polls, joins}
 use Rattle.tasks.proofs.state.Tasks.or_wait.Statement.{statement}
 use Rattle.tasks.proofs.state.Tasks.or_wait.Tie as tie
-use Rattle.tasks.proofs.state.Tasks.or_wait.Reads as reads
-use Rattle.tasks.proofs.state.Tasks.or_wait.Lts as lts
-use Rattle.tasks.proofs.state.Tasks.join.Reads as join-reads
 
--- src/wait.rt:163:30
 enum-told : tie.Need-enum-told
 enum-told c = search needs
 
--- src/wait.rt:170:17
 enum-told-2 : tie.Need-enum-told-2
 enum-told-2 c = search needs
 
--- src/wait.rt:170:17
 join-requires : tie.Need-join-requires
 join-requires c κs = search needs
 
--- src/wait.rt:156:5
 returns : tie.Need-returns
 returns c =
     let b = c .before .before in
     polls (b .pre .0) (waiterOf (suc (b .args .task)) (b .args .wait)) (b .args .patience) (c .before .match .keys1)
 
--- src/wait.rt:156:5
 returns-2 : tie.Need-returns-2
 returns-2 c =
     let b = c .before .before .before in

@@ -1,3 +1,4 @@
+-- `Tasks::wake` meets its contract. Assumes nothing.
 use borrow.Author.Needs.{needs}
 use Prim.Native.Nat.{suc, _+_}
 use native.Mathlib.Omega.{arith}
@@ -7,19 +8,13 @@ use Rattle.model.specs.declared.Outcome.the-variants.{Code}
 use Rattle.tasks.proofs.Ends.{ended}
 use Rattle.tasks.proofs.state.Tasks.wake.Statement.{statement}
 use Rattle.tasks.proofs.state.Tasks.wake.Tie as tie
-use Rattle.tasks.proofs.state.Tasks.wake.Reads as reads
-use Rattle.tasks.proofs.state.Tasks.wake.Lts as lts
-use Rattle.tasks.proofs.state.Tasks.release.Reads as release-reads
 
--- src/wait.rt:140:22
 add-number : tie.Need-add-number
 add-number c = search needs
 
--- src/wait.rt:141:9
 release-requires : tie.Need-release-requires
 release-requires c κs = search needs
 
--- src/wait.rt:136:5
 returns : tie.Need-returns
 returns c =
     let a = c .before .args in

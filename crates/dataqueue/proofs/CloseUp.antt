@@ -1,0 +1,92 @@
+-- The words of a part move up, one by one. Assumes nothing.
+use Prim.Native.Nat.{ℕ, zero, suc, _+_, _-_, _≤_, _<_}
+use native.Mathlib.Omega.{arith}
+use native.Mathlib.Numerals.{add-one}
+use mathlib.Core.Path.{_≡_, refl, sym, ap, _∙_}
+use mathlib.Core.List.{List, [], _∷_, _++_, append-assoc}
+use lib.ListN.{length, getD, take, drop, set, length-append, length-drop, List·getD-append}
+use lib.Seq.{drop-cons, take-suc, set-at, length-take-le, take-all, getD-at, getD-take, getD-drop, take-append-le, drop-append-le}
+use Rattle.dataqueue.specs.Buffers.{closeUp}
+
+module _ {A : Type 0} where
+  -- the first i entries of r, and the rest of o
+  abbrev pub filled : List A → List A → ℕ → List A
+  filled r o i = take i r ++ drop i o
+
+  pub fill-step : (r o : List A) (i : ℕ) (v d : A) → length r ≡ length o → i < length o → v ≡ getD r i d → set (filled r o i) i v ≡ filled r o (i + 1)
+  fill-step r o i v d e h q =
+      rw (add-one, drop-cons o i d h, take-suc r i d (omega arith), q, append-assoc)
+      (set-at (take i r) (getD o i d) (drop (suc i) o) (getD r i d) i (length-take-le i r (omega arith)))
+
+head-length : (n : ℕ) (ws : List ℕ) → 0 < n → n ≤ length ws → length (drop 1 (take n ws)) ≡ n - 1
+head-length n ws h k = length-drop 1 (take n ws) ∙ ap (λ (m : ℕ). m - 1) (length-take-le n ws k)
+
+pub close-length : (f n : ℕ) (ws : List ℕ) → 0 < n → f + n ≤ length ws → length (closeUp f n ws) ≡ length ws
+unfolding closeUp
+close-length zero n ws h k =
+    let a = length-append (drop 1 (take n ws)) (0 ∷ drop n ws) in
+    let b = head-length n ws h (omega arith) in
+    let c = length-drop n ws in
+    omega arith
+close-length (suc f) n [] h k = absurd (omega arith)
+close-length (suc f) n (x ∷ ws) h k = ap suc (close-length f n ws h (omega arith))
+
+pub close-move : (f n : ℕ) (ws : List ℕ) (i : ℕ) → f + n ≤ length ws → f ≤ i → i + 1 < f + n → getD ws (i + 1) 0 ≡ getD (closeUp f n ws) i 0
+unfolding closeUp
+close-move zero n ws i h k l =
+    let b = head-length n ws (omega arith) (omega arith) in
+    let e : 1 + i ≡ i + 1 = omega arith in
+    sym (List·getD-append (drop 1 (take n ws)) (0 ∷ drop n ws) 0 i (omega arith) ∙ getD-drop 1 (take n ws) i 0 ∙ getD-take n ws (1 + i) 0 (omega arith) ∙ ap (λ (j : ℕ). getD ws j 0) e)
+close-move (suc f) n [] i h k l = absurd (omega arith)
+close-move (suc f) n (x ∷ ws) zero h k l = absurd (omega arith)
+close-move (suc f) n (x ∷ ws) (suc i) h k l =
+    let e : suc i + 1 ≡ suc (i + 1) = omega arith in
+    ap (λ (j : ℕ). getD (x ∷ ws) j 0) e ∙ close-move f n ws i (omega arith) (omega arith) (omega arith)
+
+pub close-zero : (f n : ℕ) (ws : List ℕ) → 0 < n → f + n ≤ length ws → 0 ≡ getD (closeUp f n ws) (f + n - 1) 0
+unfolding closeUp
+close-zero zero n ws h k = sym (getD-at (drop 1 (take n ws)) 0 (drop n ws) 0 (0 + n - 1) (head-length n ws h (omega arith) ∙ omega arith))
+close-zero (suc f) n [] h k = absurd (omega arith)
+close-zero (suc f) n (x ∷ ws) h k =
+    let e : suc f + n - 1 ≡ suc (f + n - 1) = omega arith in
+    close-zero f n ws h (omega arith) ∙ ap (λ (j : ℕ). getD (x ∷ closeUp f n ws) j 0) (sym e)
+
+-- before the part nothing moves, and after it nothing either
+pub close-start : (f n : ℕ) (ws : List ℕ) → f ≤ length ws → filled (closeUp f n ws) ws f ≡ ws
+unfolding closeUp
+close-start zero n ws h = refl
+close-start (suc f) n [] h = refl
+close-start (suc f) n (x ∷ ws) h = ap (λ (l : List ℕ). x ∷ l) (close-start f n ws (omega arith))
+
+pub close-end : (f n : ℕ) (ws : List ℕ) → 0 < n → f + n ≤ length ws → filled (closeUp f n ws) ws (f + n) ≡ closeUp f n ws
+unfolding closeUp
+close-end zero n ws h k =
+    let a : 0 + n ≡ n = omega arith in
+    let b = head-length n ws h (omega arith) in
+    let m = drop 1 (take n ws) in
+    let l : length (m ++ (0 ∷ [])) ≡ n = length-append m (0 ∷ []) ∙ omega arith in
+    let g : m ++ (0 ∷ drop n ws) ≡ (m ++ (0 ∷ [])) ++ drop n ws = sym (append-assoc m (0 ∷ []) (drop n ws)) in
+    let t : take n (m ++ (0 ∷ drop n ws)) ≡ m ++ (0 ∷ []) = ap (take n) g ∙ take-append-le n (m ++ (0 ∷ [])) (drop n ws) (omega arith) ∙ take-all n (m ++ (0 ∷ [])) (omega arith) in
+    ap (λ (j : ℕ). filled (m ++ (0 ∷ drop n ws)) ws j) a ∙ ap (λ (z : List ℕ). z ++ drop n ws) t ∙ sym g
+close-end (suc f) n [] h k = absurd (omega arith)
+close-end (suc f) n (x ∷ ws) h k =
+    let e : suc f + n ≡ suc (f + n) = omega arith in
+    ap (λ (j : ℕ). filled (x ∷ closeUp f n ws) (x ∷ ws) j) e ∙ ap (λ (l : List ℕ). x ∷ l) (close-end f n ws h (omega arith))
+
+-- what stands behind the part, or before it, stays
+pub close-append : (f n : ℕ) (l r : List ℕ) → f + n ≤ length l → closeUp f n (l ++ r) ≡ closeUp f n l ++ r
+unfolding closeUp
+close-append zero n l r h =
+    let a : take n (l ++ r) ≡ take n l = take-append-le n l r (omega arith) in
+    let b : drop n (l ++ r) ≡ drop n l ++ r = drop-append-le n l r (omega arith) in
+    (λ i. drop 1 (a i) ++ (0 ∷ b i)) ∙ sym (append-assoc (drop 1 (take n l)) (0 ∷ drop n l) r)
+close-append (suc f) n [] r h = absurd (omega arith)
+close-append (suc f) n (x ∷ l) r h = ap (λ (z : List ℕ). x ∷ z) (close-append f n l r (omega arith))
+
+pub close-past : (xs ys : List ℕ) (f m n : ℕ) → length xs ≡ f → closeUp (f + m) n (xs ++ ys) ≡ xs ++ closeUp m n ys
+unfolding closeUp
+close-past [] ys f m n e = let z : f + m ≡ m = omega arith in ap (λ (k : ℕ). closeUp k n ys) z
+close-past (x ∷ xs) ys zero m n e = absurd (omega arith)
+close-past (x ∷ xs) ys (suc f) m n e =
+    let g : suc f + m ≡ suc (f + m) = omega arith in
+    ap (λ (k : ℕ). closeUp k n (x ∷ (xs ++ ys))) g ∙ ap (λ (l : List ℕ). x ∷ l) (close-past xs ys f m n (omega arith))

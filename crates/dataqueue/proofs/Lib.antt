@@ -1,0 +1,6 @@
+pub mod CloseUp
+pub mod Parts
+pub mod Back
+pub mod Links
+pub mod Entries
+pub mod Calls

@@ -1,0 +1,96 @@
+-- `call::send` meets its contract. Assumes nothing.
+use borrow.Author.Needs.{needs}
+use Prim.Native.Nat.{suc}
+use mathlib.Core.Path.{_≡_, sym, ap, _∙_}
+use mathlib.Core.List.{[]}
+use lib.ListN.{length}
+use borrow.Author.Tests.{ltb-true}
+use Rattle.model.specs.State.{place}
+use Rattle.model.specs.Waits.{waitersIn}
+use Rattle.model.specs.Queues.{queueIn}
+use Rattle.model.specs.declared.Side.the-variants.{Receiving}
+use Rattle.tasks.specs.declared.wait.Ended.{Ended}
+use Rattle.tasks.specs.View.{waitsOf}
+use Rattle.tasks.proofs.Firsts.{Waits, waits, no-first}
+use Rattle.dataqueue.specs.declared.state.Queues.{Queues}
+use Rattle.dataqueue.specs.View.{queuesOf}
+use Rattle.dataqueue.specs.Effects.{doneWith, endedWith}
+use Rattle.dataqueue.proofs.Calls.{send-wakes, send-stores, send-waits}
+use Rattle.dataqueue.proofs.call.send.Statement.{statement}
+use Rattle.dataqueue.proofs.call.send.Tie as tie
+
+first-requires : tie.Need-first-requires
+first-requires c κs = search needs
+
+enum-known-receiver : tie.Need-enum-known-receiver
+enum-known-receiver c = search needs
+
+-- who is first to receive
+first-at : (c : tie.After-receiver) → let b = c .before .before .before in Waits (b .args .tasks) (place Receiving (suc (b .args .object))) (c .receiver .given .0 .0) (c .receiver .given .0 .1 .0)
+first-at c = let b = c .before .before .before in waits (b .pre .0) (place Receiving (suc (b .args .object))) _ _ (sym (c .before .before .first .ensures) ∙ c .receiver .given .1)
+
+wake-requires : tie.Need-wake-requires
+wake-requires c κs = (c .before .before .before .before .pre .0, first-at (c .before) .low)
+
+ended-requires : tie.Need-ended-requires
+ended-requires c κs = search needs
+
+enum-told : tie.Need-enum-told
+enum-told c = search needs
+
+nobody : (c : tie.After-enum-told) → let b = c .before .before .before in waitersIn (waitsOf (b .args .tasks)) (place Receiving (suc (b .args .object))) ≡ []
+nobody c = let p = c .before .before in let b = p .before in no-first (waitersIn (waitsOf (b .args .tasks)) (place Receiving (suc (b .args .object)))) (p .first .result) (p .first .ensures) (c .before .match .keys2)
+
+has-room-requires : tie.Need-has-room-requires
+has-room-requires c κs = search needs
+
+push-requires : tie.Need-push-requires
+push-requires c κs =
+    let b = c .before .before .before .before .before in
+    let q = queueIn (queuesOf (b .args .queues)) (suc (b .args .object)) in
+    (b .pre .1, b .pre .3, ltb-true (length (q .buffer)) (q .capacity) (sym (c .before .has-room .ensures) ∙ c .if1 .taken))
+
+done-requires : tie.Need-done-requires
+done-requires c κs = search needs
+
+or-wait-requires : tie.Need-or-wait-requires
+or-wait-requires c κs = search needs
+
+ended-requires-2 : tie.Need-ended-requires-2
+ended-requires-2 c κs = search needs
+
+returns : tie.Need-returns
+returns c =
+    let p = c .before .before .before in
+    let b = p .before .before .before in
+    c .ended .ensures ∙ ap (λ (e : Ended). endedWith e (b .args .queues)) (c .before .wake .ensures) ∙ send-wakes (b .pre .0) (b .pre .1) (b .args .task) (b .args .object) (b .args .patience) (b .args .word) _ _ (first-at p)
+
+returns-2 : tie.Need-returns-2
+returns-2 c =
+    let p = c .before .before .before in
+    let b = p .before .before .before .before in
+    c .done .ensures ∙ ap (λ (q : Queues). doneWith (b .args .tasks) q 0) (c .before .push .ensures) ∙ send-stores (b .pre .0) (b .pre .1) (b .args .task) (b .args .object) (b .args .patience) (b .args .word) (nobody (p .before)) (sym (p .has-room .ensures) ∙ c .before .before .if1 .taken)
+
+returns-3 : tie.Need-returns-3
+returns-3 c =
+    let p = c .before .before .before in
+    let b = p .before .before .before .before in
+    c .ended2 .ensures ∙ ap (λ (e : Ended). endedWith e (b .args .queues)) (c .before .or-wait .ensures) ∙ send-waits (b .pre .0) (b .pre .1) (b .args .task) (b .args .object) (b .args .patience) (b .args .word) (nobody (p .before)) (sym (p .has-room .ensures) ∙ c .before .before .if1 .left)
+
+pub send-spec : {M : Type 1} → statement M
+send-spec =
+    tie.close
+    (tie.spec
+    first-requires
+    enum-known-receiver
+    wake-requires
+    ended-requires
+    enum-told
+    has-room-requires
+    push-requires
+    done-requires
+    or-wait-requires
+    ended-requires-2
+    returns
+    returns-2
+    returns-3)

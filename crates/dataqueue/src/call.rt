@@ -1,0 +1,137 @@
+// The calls on a data queue, once their checks are passed (document 01, "Calls on an open gateway").
+ghost use mathlib.Core.Path.{_≡_};
+ghost use Prim.Native.Nat.{suc, _<_};
+ghost use lib.ListN.{length};
+ghost use Rattle.model.specs.Queues as Model;
+ghost use Rattle.tasks.specs.View.{domainsOf, waitsOf};
+ghost use Rattle.tasks.specs.Held.{Held as TasksHeld, Free};
+ghost use Rattle.dataqueue.specs.View.{queuesOf};
+ghost use Rattle.dataqueue.specs.Held.{Held};
+ghost use Rattle.dataqueue.specs.Effects.{effectAs, doneWith, endedWith, statusOf};
+use crate::state::Queues;
+use access::vector::Vector;
+use itron::code::E_OK;
+use model::Outcome;
+use model::Patience;
+use model::Released;
+use model::Reply;
+use model::Side;
+use tasks::state::Tasks;
+use tasks::task::Wait;
+use tasks::wait::Ended;
+use tasks::wait::First;
+
+// What a call gives.
+pub struct Effect {
+    pub reply: Reply,
+    pub tasks: Tasks,
+    pub queues: Queues,
+}
+
+// What a refer tells; the numbers of the first who wait, 0 if nobody does.
+pub struct QueueStatus {
+    pub sender: usize,
+    pub receiver: usize,
+    pub count: usize,
+    pub vector: Vector,
+}
+
+// E_OK with a word, nobody released.
+pub(crate) fn done(tasks: Tasks, queues: Queues, word: u32) -> Effect
+    ensures { λ r. ⌜ r ≡ doneWith tasks queues word ⌝ }
+{
+    Effect {
+        reply: Reply {
+            outcome: Outcome::Code(E_OK),
+            word,
+            released: Released { task: 0, word: 0 },
+        },
+        tasks,
+        queues,
+    }
+}
+
+// An end on the tasks, with the queues beside it.
+pub(crate) fn ended(end: Ended, queues: Queues) -> Effect
+    ensures { λ r. ⌜ r ≡ endedWith end queues ⌝ }
+{
+    let reply = end.reply;
+    let tasks = end.tasks;
+    Effect {
+        reply,
+        tasks,
+        queues,
+    }
+}
+
+// Both sends, by a ready task on a registered queue.
+pub fn send(
+    tasks: Tasks,
+    queues: Queues,
+    task: usize,
+    object: usize,
+    word: u32,
+    patience: Patience,
+) -> Effect
+    requires { ⌜ TasksHeld tasks × Held queues × Free (domainsOf tasks) (waitsOf tasks) task × (object < length (queuesOf queues)) ⌝ }
+    ensures { λ r. ⌜ r ≡ effectAs (domainsOf tasks) (Model.send (waitsOf tasks) (queuesOf queues) (suc task) (suc object) word patience) ⌝ }
+{
+    match tasks.first(Side::Receiving, object) {
+        First::Waiter(receiver, _) => ended(tasks.wake(receiver, 0, word), queues),
+        First::Nobody => {
+            if queues.has_room(object) {
+                done(tasks, queues.push(object, word), 0)
+            } else {
+                ended(
+                    tasks.or_wait(task, Wait::Sending(object, word), patience),
+                    queues,
+                )
+            }
+        },
+    }
+}
+
+// Both receives, by a ready task on a registered queue.
+pub fn receive(
+    tasks: Tasks,
+    queues: Queues,
+    task: usize,
+    object: usize,
+    patience: Patience,
+) -> Effect
+    requires { ⌜ TasksHeld tasks × Held queues × Free (domainsOf tasks) (waitsOf tasks) task × (object < length (queuesOf queues)) ⌝ }
+    ensures { λ r. ⌜ r ≡ effectAs (domainsOf tasks) (Model.receive (waitsOf tasks) (queuesOf queues) (suc task) (suc object) patience) ⌝ }
+{
+    let sender = tasks.first(Side::Sending, object);
+    if queues.buffered(object) == 0 {
+        return match sender {
+            First::Waiter(from, sent) => ended(tasks.wake(from, sent, 0), queues),
+            First::Nobody => ended(
+                tasks.or_wait(task, Wait::Receiving(object), patience),
+                queues,
+            ),
+        };
+    }
+    let word = queues.oldest(object);
+    match sender {
+        First::Waiter(from, sent) => ended(tasks.wake(from, word, 0), queues.refill(object, sent)),
+        First::Nobody => done(tasks, queues.pop(object), word),
+    }
+}
+
+// Refer, on a registered queue.
+pub fn refer(tasks: Tasks, queues: Queues, object: usize) -> QueueStatus
+    requires { ⌜ TasksHeld tasks × Held queues × (object < length (queuesOf queues)) ⌝ }
+    ensures { λ r. ⌜ r ≡ statusOf (Model.refer (waitsOf tasks) (queuesOf queues) (suc object)) ⌝ }
+{
+    let sender = tasks.first_number(Side::Sending, object);
+    let receiver = tasks.first_number(Side::Receiving, object);
+    let count = queues.buffered(object);
+    let vector = queues.vector(object);
+    QueueStatus {
+        sender,
+        receiver,
+        count,
+        vector,
+    }
+}

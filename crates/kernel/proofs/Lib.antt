@@ -1,0 +1,5 @@
+pub mod Back
+pub mod Checks
+pub mod Calls
+pub mod Building
+pub mod Places

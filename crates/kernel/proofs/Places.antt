@@ -1,0 +1,30 @@
+-- Nobody waits at an object without a number. Assumes nothing.
+use Prim.Native.Nat.{ℕ, zero, suc}
+use mathlib.Core.Path.{_≡_, refl, sym, ap, _∙_}
+use mathlib.Core.Logic.{_≢_}
+use mathlib.Core.Bool.{Bool, true, false, _&&_}
+use mathlib.Core.List.{List, [], _∷_, map}
+use lib.Dec.{eqb}
+use lib.ListN.{getD}
+use Rattle.model.specs.Lists.{All, consIf, keep}
+use Rattle.model.specs.State.{Waiter, Place, State, place, sameSide}
+use Rattle.model.specs.declared.Side.{Side}
+use Rattle.model.specs.Waits.{standsAt, waitersAt}
+use Rattle.model.specs.Conditions.{Plain, Sound}
+use Rattle.model.proofs.Lists.{eqb-no}
+use Rattle.tasks.specs.Ends.{taskIn}
+
+and-false : (b : Bool) → b && false ≡ false
+and-false true = refl
+and-false false = refl
+
+nobody-at : (d : Side) (l : List Waiter) → All Plain l → keep (standsAt (place d 0)) l ≡ []
+nobody-at d [] h = refl
+nobody-at d (e ∷ l) h =
+    let z : standsAt (place d 0) e ≡ false = ap (λ (b : Bool). sameSide d (e .place .side) && b) (eqb-no 0 (e .place .number) (λ q. h .0 .0 (sym q))) ∙ and-false (sameSide d (e .place .side)) in
+    ap (λ (b : Bool). consIf b e (keep (standsAt (place d 0)) l)) z ∙ nobody-at d l (h .1)
+
+pub no-waiter : (m : State) → Sound m → (d : Side) (n k : ℕ) → n ≡ 0 → 0 ≡ getD (map taskIn (waitersAt m (place d n))) k 0
+no-waiter m s d n k e =
+    ap (λ (l : List Waiter). getD (map taskIn l) k 0) (sym (nobody-at d (m .waits) (s .fit .waits .plain)))
+    ∙ ap (λ (j : ℕ). getD (map taskIn (waitersAt m (place d j))) k 0) (sym e)

@@ -1,0 +1,76 @@
+use borrow.Author.Needs.{needs}
+use mathlib.Core.Path.{_≡_, refl, sym, ap, _∙_}
+use mir.Syntax.{w32}
+use mir.Val.{toZ, ofZ}
+use mir.Facts.{toZ-ofZ}
+use Prim.Native.Nat.{ℕ}
+use mathlib.Core.Bool.{not}
+use lib.Dec.{ltb}
+use lib.ListN.{length}
+use Rattle.itron.specs.Limits.{maxSemaphores}
+use Rattle.model.specs.Answers.{resultOf}
+use Rattle.model.specs.Table.{owns}
+use Rattle.semaphore.specs.Entries.{entryCheck}
+use Rattle.kernel.specs.View.{viewOf}
+use Rattle.kernel.specs.Answers.{opening}
+use Rattle.kernel.proofs.Back.{sems-held}
+use Rattle.kernel.proofs.Building.{opening-refuses, opening-passes}
+use Rattle.kernel.proofs.state.State.check_semaphore.Statement.{statement}
+use Rattle.kernel.proofs.state.State.check_semaphore.Tie as tie
+use Rattle.kernel.proofs.state.State.check_semaphore.Reads as reads
+use Rattle.kernel.proofs.state.State.check_semaphore.Lts as lts
+use Rattle.kernel.proofs.state.State.opening.Reads as opening-reads
+use Rattle.kernel.proofs.state.State.owns.Reads as owns-reads
+use Rattle.semaphore.proofs.entry.check.Reads as check-reads
+use Rattle.semaphore.proofs.state.Semaphores.len.Reads as len-reads
+
+-- src/table.rt:114:33
+len-requires : tie.Need-len-requires
+len-requires c κs = sems-held (c .before .pre)
+
+sign : (c : tie.After-struct-told) → let d = c .before .before .before .args .given .domain in toZ w32 (ofZ w32 d) ≡ d
+sign c = search needs
+
+-- src/table.rt:114:67
+owns-requires : tie.Need-owns-requires
+owns-requires c κs = search needs
+
+-- src/table.rt:114:13
+opening-requires : tie.Need-opening-requires
+opening-requires c κs = search needs
+
+opens : (c : tie.After-opening) → let a = c .before .before .before .before .before .args in c .opening .result ≡ resultOf (opening (a .self .closed) (length (viewOf (a .self) .sems)) maxSemaphores (owns (a .self .domains) (a .given .domain)))
+opens c =
+    let a = c .before .before .before .before .before .args in
+    let l = c .before .before .before .len .ensures in
+    let o = rw (sign (c .before .before)) at (c .before .owns .ensures) in
+    c .opening .ensures ∙ (λ i. resultOf (opening (a .self .closed) (l i) maxSemaphores (o i)))
+
+-- src/table.rt:116:13
+returns : tie.Need-returns
+returns c =
+    let p = c .before in
+    let a = c .before .before .before .before .before .before .args in
+    let z = p .opening .result in
+    let e : toZ w32 (ofZ w32 z) ≡ z = search needs in
+    e ∙ opening-refuses (a .self .closed) (not (ltb (length (viewOf (a .self) .sems)) maxSemaphores)) (not (owns (a .self .domains) (a .given .domain))) (entryCheck (a .given .attribute) (a .given .start) (a .given .max)) z (opens p) (λ q. c .if1 .taken (ap (ofZ w32) q))
+
+-- src/table.rt:118:9
+check-requires : tie.Need-check-requires
+check-requires c κs = search needs
+
+-- src/table.rt:109:5
+returns-2 : tie.Need-returns-2
+returns-2 c =
+    let p = c .before .before in
+    let a = c .before .before .before .before .before .before .before .args in
+    let z = p .opening .result in
+    let e : toZ w32 (ofZ w32 z) ≡ z = search needs in
+    let r = c .check .result in
+    let f : toZ w32 (ofZ w32 r) ≡ r = search needs in
+    f ∙ c .check .ensures ∙ opening-passes (a .self .closed) (not (ltb (length (viewOf (a .self) .sems)) maxSemaphores)) (not (owns (a .self .domains) (a .given .domain))) (entryCheck (a .given .attribute) (a .given .start) (a .given .max)) z (opens p) (sym e ∙ ap (toZ w32) (c .before .if1 .left))
+
+pub check-semaphore-spec : {M : Type 1} → statement M
+check-semaphore-spec =
+    tie.close
+    (tie.spec len-requires owns-requires opening-requires returns check-requires returns-2)

@@ -1,0 +1,5 @@
+pub mod View
+pub mod Form
+pub mod Valid
+pub mod Answers
+pub mod Promises

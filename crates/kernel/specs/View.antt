@@ -1,0 +1,16 @@
+-- What is seen of a state: the model's state that it stands for. Definitions only.
+use Rattle.model.specs.State as Model
+use Rattle.tasks.specs.View.{domainsOf, waitsOf}
+use Rattle.semaphore.specs.View.{semsOf}
+use Rattle.dataqueue.specs.View.{queuesOf}
+use Rattle.regions.specs.View.{regionsOf}
+use Rattle.kernel.specs.declared.state.State.{State}
+
+abbrev pub viewOf : State → Model.State
+viewOf s =
+    record {
+      fixed = record { closed = s .closed; count = s .domains; domains = domainsOf (s .tasks); regions = regionsOf (s .regions) };
+      waits = waitsOf (s .tasks);
+      sems = semsOf (s .semaphores);
+      queues = queuesOf (s .queues);
+    }

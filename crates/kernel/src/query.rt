@@ -1,0 +1,120 @@
+// Read-only queries: what a dump of the state shows. Objects by number, from 1; what is not there is all zeros.
+ghost use mathlib.Core.Path.{_≡_};
+ghost use mathlib.Core.List.{map};
+ghost use Prim.Native.Nat.{ℕ};
+ghost use lib.ListN.{length, getD};
+ghost use Rattle.model.specs.Lists.{at};
+ghost use Rattle.model.specs.State.{semAt, queueAt, noRegion, place};
+ghost use Rattle.model.specs.Waits.{waitersAt};
+ghost use Rattle.tasks.specs.Ends.{taskOf, taskIn};
+ghost use Rattle.dataqueue.specs.View as QueuesView;
+ghost use Rattle.regions.specs.View as RegionsView;
+ghost use Rattle.kernel.specs.View.{viewOf};
+ghost use Rattle.kernel.specs.Valid.{Valid};
+use crate::state::State;
+use dataqueue::state::QueueInfo;
+use model::Semaphore;
+use model::Side;
+use regions::state::RegionInfo;
+use tasks::task::Task;
+
+impl State {
+    // The number n of user domains.
+    pub fn domains(self) -> usize
+        ensures { λ r. ⌜ r ≡ viewOf self .fixed .count ⌝ }
+    {
+        self.domains
+    }
+
+    pub fn closed(self) -> bool
+        ensures { λ r. ⌜ r ≡ viewOf self .fixed .closed ⌝ }
+    {
+        self.closed
+    }
+
+    pub fn task_count(self) -> usize
+        requires { ⌜ Valid self ⌝ }
+        ensures { λ r. ⌜ r ≡ length (viewOf self .fixed .domains) ⌝ }
+    {
+        let tasks = self.tasks;
+        tasks.len()
+    }
+
+    pub fn semaphore_count(self) -> usize
+        requires { ⌜ Valid self ⌝ }
+        ensures { λ r. ⌜ r ≡ length (viewOf self .sems) ⌝ }
+    {
+        let semaphores = self.semaphores;
+        semaphores.len()
+    }
+
+    pub fn queue_count(self) -> usize
+        requires { ⌜ Valid self ⌝ }
+        ensures { λ r. ⌜ r ≡ length (viewOf self .queues) ⌝ }
+    {
+        let queues = self.queues;
+        queues.len()
+    }
+
+    pub fn region_count(self) -> usize
+        requires { ⌜ Valid self ⌝ }
+        ensures { λ r. ⌜ r ≡ length (viewOf self .fixed .regions) ⌝ }
+    {
+        let regions = self.regions;
+        regions.len()
+    }
+
+    // A task's domain and what it does.
+    pub fn task(self, number: usize) -> Task
+        requires { ⌜ Valid self ⌝ }
+        ensures { λ r. ⌜ r ≡ taskOf (viewOf self .fixed .domains) (viewOf self .waits) number ⌝ }
+    {
+        let tasks = self.tasks;
+        tasks.task(number)
+    }
+
+    pub fn semaphore(self, number: usize) -> Semaphore
+        requires { ⌜ Valid self ⌝ }
+        ensures { λ r. ⌜ r ≡ semAt (viewOf self) number ⌝ }
+    {
+        let semaphores = self.semaphores;
+        semaphores.semaphore(number)
+    }
+
+    pub fn queue(self, number: usize) -> QueueInfo
+        requires { ⌜ Valid self ⌝ }
+        ensures { λ r. ⌜ r ≡ QueuesView.infoOf (queueAt (viewOf self) number) ⌝ }
+    {
+        let queues = self.queues;
+        queues.queue(number)
+    }
+
+    // A queue's buffered word with k older ones; 0 past the last.
+    pub fn word(self, number: usize, k: usize) -> u32
+        requires { ⌜ Valid self ⌝ }
+        ensures { λ r. ⌜ r ≡ getD (queueAt (viewOf self) number .buffer) k 0 ⌝ }
+    {
+        let queues = self.queues;
+        queues.word(number, k)
+    }
+
+    pub fn region(self, number: usize) -> RegionInfo
+        requires { ⌜ Valid self ⌝ }
+        ensures { λ r. ⌜ r ≡ RegionsView.infoOf (at noRegion (viewOf self .fixed .regions) number) ⌝ }
+    {
+        let regions = self.regions;
+        regions.region(number)
+    }
+
+    // The task that waits on that side of an object with k tasks ahead; 0 past the last.
+    pub fn waiter(self, side: Side, number: usize, k: usize) -> usize
+        requires { ⌜ Valid self ⌝ }
+        ensures { λ r. ⌜ r ≡ getD (map taskIn (waitersAt (viewOf self) (place side number))) k 0 ⌝ }
+    {
+        if number == 0 {
+            return 0;
+        }
+        let tasks = self.tasks;
+        tasks.waiter(side, number - 1, k)
+    }
+}

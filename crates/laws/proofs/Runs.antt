@@ -1,0 +1,178 @@
+-- Demand 3 and taking turns hold of every run of the program. Assumes nothing.
+use Prim.Native.Nat.{ℕ, zero, suc, _≤_}
+use mathlib.Core.Path.{_≡_, refl, sym, ap, _∙_, subst}
+use mathlib.Core.Bool.{Bool, true, false}
+use mathlib.Core.List.{List, [], _∷_, _++_, map}
+use mathlib.Core.Option.{Option, none, some}
+use lib.IntN.{ℤ, pos, negsuc}
+use lib.Dec.{leb}
+use lib.ListN.{length, drop}
+use Rattle.itron.specs.Codes.{Err}
+use Rattle.itron.specs.Limits.{maxDomains}
+use Rattle.model.specs.Lists.{All, at}
+use Rattle.model.specs.State as Model
+use Rattle.model.specs.State.{Queue, Place, Waiter, noQueue}
+use Rattle.model.specs.Answers.{Info, Out, done, noInfo, replyOf, plain, codeOf}
+use Rattle.model.specs.Waits.{waitersAt}
+use Rattle.model.specs.Table.{Entry, task, sem, queue, region, fresh, freshBy, emptyState, enter, enterBy, add, checkEntry, close, closeBy, shut}
+use Rattle.model.specs.Calls.{Call, call, refer, step, check, operationOf, actIf, act, no}
+use Rattle.model.specs.History.{Event, event, after, history, total}
+use Rattle.model.specs.Demand3.{JustClosed}
+use Rattle.model.specs.Turns.{serves, tasksOf, InTurn}
+use Rattle.model.specs.declared.Kind.{Kind}
+use Rattle.model.specs.declared.Kind.the-variants.{Semaphore, Queue as QueueKind}
+use Rattle.model.specs.declared.Released.{Released}
+use Rattle.model.specs.Answers as Answers
+use Rattle.model.proofs.Lists.{all-snoc}
+use Rattle.model.proofs.Steps.{info-law}
+use Rattle.model.proofs.Demand3.{demand3}
+use Rattle.model.proofs.Turns.{in-turn}
+use Rattle.kernel.specs.declared.state.State.{State}
+use Rattle.kernel.specs.declared.state.Answer.{Answer}
+use Rattle.kernel.specs.declared.state.Entered.{Entered}
+use Rattle.kernel.specs.declared.sem.SemaphoreReport.{SemaphoreReport}
+use Rattle.kernel.specs.declared.dtq.QueueReport.{QueueReport}
+use Rattle.kernel.specs.View.{viewOf}
+use Rattle.kernel.specs.Valid.{Valid}
+use Rattle.kernel.specs.Promises.{Begins, Enters, Does, TellsSemaphore, TellsQueue}
+use Rattle.laws.specs.Runs.{Built, begun, entered, Said, saidBy, saidIn, toldOfSemaphore, toldOfQueue, Ran, start, calls, refersSemaphore, refersQueue}
+use Rattle.laws.specs.Claims.{Whole, TakesTurns}
+
+-- ---- before the closing nobody waits and nothing is buffered
+record Idle (s : Model.State) : Type 0 where
+  isOpen : s .fixed .closed ≡ false
+  noWaits : s .waits ≡ []
+  noWords : All (λ (q : Queue). q .buffer ≡ []) (s .queues)
+
+idle-add : (s : Model.State) (i : Entry) → Idle s → Idle (add s i)
+idle-add s (task d) k = record { isOpen = k .isOpen; noWaits = k .noWaits; noWords = k .noWords }
+idle-add s (sem d a b m v) k = record { isOpen = k .isOpen; noWaits = k .noWaits; noWords = k .noWords }
+idle-add s (queue d a c v) k = record { isOpen = k .isOpen; noWaits = k .noWaits; noWords = all-snoc (λ (q : Queue). q .buffer ≡ []) (s .queues) _ (k .noWords) refl }
+idle-add s (region d a b z v) k = record { isOpen = k .isOpen; noWaits = k .noWaits; noWords = k .noWords }
+
+idle-enter : (s : Model.State) (i : Entry) → Idle s → Idle (enter s i .state)
+unfolding enter
+idle-enter s i k = go (checkEntry s i)
+  where
+    go : (o : Option Err) → Idle (enterBy s i o .state)
+    go (some e) = k
+    go none = idle-add s i k
+
+idle-empty : (n : ℕ) → Idle (emptyState n)
+idle-empty n = record { isOpen = refl; noWaits = refl; noWords = tt }
+
+idle-fresh : (n : ℤ) → Idle (fresh n .state)
+unfolding fresh
+idle-fresh (negsuc n) = idle-empty 0
+idle-fresh (pos n) = go (leb n maxDomains)
+  where
+    go : (b : Bool) → Idle (freshBy b n .state)
+    go true = idle-empty n
+    go false = idle-empty 0
+
+idle : {s : State} → Built s → Idle (viewOf s)
+idle (begun n r g) = subst (λ (m : Model.State). Idle m) (sym (g .seen)) (idle-fresh n)
+idle (entered s b i r g) = subst (λ (m : Model.State). Idle m) (sym (g .seen)) (idle-enter (viewOf s) i (idle b))
+
+buffer-of : (l : List Queue) (q : ℕ) → All (λ (x : Queue). x .buffer ≡ []) l → at noQueue l q .buffer ≡ []
+buffer-of l zero k = refl
+buffer-of [] (suc q) k = refl
+buffer-of (x ∷ l) (suc zero) k = k .0
+buffer-of (x ∷ l) (suc (suc q)) k = buffer-of l (suc q) (k .1)
+
+-- a table that was built closes with E_OK
+pub closes : {s : State} → Built s → close (viewOf s) ≡ done (shut (viewOf s))
+unfolding close
+closes {s} b = ap (λ (c : Bool). closeBy c (viewOf s)) (idle b .isOpen)
+
+just-closed : {s : State} {r : Entered} → Built s → Enters s (close (viewOf s)) r → JustClosed (viewOf (r .state))
+just-closed {s} {r} b g =
+    let k = idle b in
+    let e : viewOf (r .state) ≡ shut (viewOf s) = g .seen ∙ ap (λ (o : Out). o .state) (closes b) in
+    subst (λ (m : Model.State). JustClosed m) (sym e) (record { noWaits = k .noWaits; noWords = λ q. buffer-of (viewOf s .queues) q (k .noWords) })
+
+-- ---- a refer changes nothing, and says a code
+refer-state : (m : Model.State) (z : ℤ) (k : Kind) (id : ℤ) → step m (call z (refer k id)) .state ≡ m
+unfolding step
+refer-state m z k id = go (check m (no z) (operationOf (refer k id)) (no id) k)
+  where
+    go : (o : Option Err) → actIf m (no z) (refer k id) o .state ≡ m
+    go (some e) = refl
+    go none = refl
+
+refer-reply : (m : Model.State) (z : ℤ) (k : Kind) (id : ℤ) → plain (codeOf (step m (call z (refer k id)) .answer .code)) 0 ≡ replyOf (step m (call z (refer k id)) .answer)
+unfolding step
+refer-reply m z k id = go (check m (no z) (operationOf (refer k id)) (no id) k)
+  where
+    go : (o : Option Err) → plain (codeOf (actIf m (no z) (refer k id) o .answer .code)) 0 ≡ replyOf (actIf m (no z) (refer k id) o .answer)
+    go (some e) = refl
+    go none = refl
+
+-- a refer to a semaphore tells of no receiver
+refer-receiver : (m : Model.State) (z id : ℤ) → 0 ≡ step m (call z (refer Semaphore id)) .answer .info .receiver
+unfolding step
+refer-receiver m z id = go (check m (no z) (operationOf (refer Semaphore id)) (no id) Semaphore)
+  where
+    go : (o : Option Err) → 0 ≡ actIf m (no z) (refer Semaphore id) o .answer .info .receiver
+    go (some e) = refl
+    go none = refl
+
+-- ---- a run is the model's run
+pub state-of : {s₀ s : State} {cs : List Call} {l : List Said} → Ran s₀ cs s l → viewOf s ≡ after (viewOf s₀) cs
+unfolding after
+state-of start = refl
+state-of (calls cs s l h c n r d) = d .seen ∙ ap (λ (m : Model.State). step m c .state) (state-of h)
+state-of {s₀} (refersSemaphore cs s l h z id r d) = ap viewOf (d .kept) ∙ state-of h ∙ sym (refer-state (after (viewOf s₀) cs) z Semaphore id)
+state-of {s₀} (refersQueue cs s l h z id r d) = ap viewOf (d .kept) ∙ state-of h ∙ sym (refer-state (after (viewOf s₀) cs) z QueueKind id)
+
+pub answers-of : {s₀ s : State} {cs : List Call} {l : List Said} → Ran s₀ cs s l → l ≡ map saidIn (history (viewOf s₀) cs)
+unfolding history
+answers-of start = refl
+answers-of {s₀} (calls cs s l h c n r d) =
+    let i = info-law (viewOf s) c n in
+    let a : saidBy r ≡ saidIn (event (viewOf s) c) = ap saidBy (d .same) ∙ (λ j. record { reply = replyOf (step (viewOf s) c .answer); info = sym i j }) in
+    let e : saidBy r ≡ saidIn (event (after (viewOf s₀) cs) c) = a ∙ ap (λ (m : Model.State). saidIn (event m c)) (state-of h) in
+    let b = answers-of h in
+    λ j. e j ∷ b j
+answers-of {s₀} (refersSemaphore cs s l h z id r d) =
+    let o = step (viewOf s) (call z (refer Semaphore id)) in
+    let p = refer-reply (viewOf s) z Semaphore id in
+    let q = refer-receiver (viewOf s) z id in
+    let a : toldOfSemaphore r ≡ saidIn (event (viewOf s) (call z (refer Semaphore id))) = ap toldOfSemaphore (d .same) ∙ (λ j. record { reply = p j; info = record { waiter = o .answer .info .waiter; receiver = q j; count = o .answer .info .count; vector = o .answer .info .vector } }) in
+    let e = a ∙ ap (λ (m : Model.State). saidIn (event m (call z (refer Semaphore id)))) (state-of h) in
+    let b = answers-of h in
+    λ j. e j ∷ b j
+answers-of {s₀} (refersQueue cs s l h z id r d) =
+    let o = step (viewOf s) (call z (refer QueueKind id)) in
+    let p = refer-reply (viewOf s) z QueueKind id in
+    let a : toldOfQueue r ≡ saidIn (event (viewOf s) (call z (refer QueueKind id))) = ap toldOfQueue (d .same) ∙ (λ j. record { reply = p j; info = o .answer .info }) in
+    let e = a ∙ ap (λ (m : Model.State). saidIn (event m (call z (refer QueueKind id)))) (state-of h) in
+    let b = answers-of h in
+    λ j. e j ∷ b j
+
+-- demand 3: whatever the table and the calls
+pub whole : {s s′ : State} {r : Entered} {cs : List Call} {l : List Said} → Built s → Enters s (close (viewOf s)) r → Ran (r .state) cs s′ l → Whole (r .state) s′ cs l
+whole {r} {cs} b g h = record { demand = demand3 (viewOf (r .state)) (just-closed b g) cs; state = state-of h; answers = answers-of h }
+
+-- taking turns: from any state of the program
+pub turns : {s₁ : State} → Valid s₁ → (p : Place) (e : Waiter) (ahead behind : List Waiter) → waitersAt (viewOf s₁) p ≡ ahead ++ e ∷ behind → TakesTurns s₁ p e ahead
+turns {s₁} v p e ahead behind w = record { still = still; served = served }
+  where
+    t : InTurn (viewOf s₁) p e ahead
+    t = in-turn (viewOf s₁) (v .sound .fit .waits .distinct) p e ahead behind w
+
+    still : (cs : List Call) (s : State) (l : List Said) → Ran s₁ cs s l → total (serves p) (history (viewOf s₁) cs) ≤ length ahead
+        → (m : List Waiter) × (waitersAt (viewOf s) p ≡ drop (total (serves p) (history (viewOf s₁) cs)) ahead ++ e ∷ m)
+    still cs s l h n = let x = t .still cs n in (x .0, ap (λ (m : Model.State). waitersAt m p) (state-of h) ∙ x .1)
+
+    one : (rs : List Released) → tasksOf rs ≡ e .task ∷ [] → Answers.releasedOf rs .task ≡ e .task
+    one [] q = cc
+    one (x ∷ rs) q = cc
+
+    served : (cs : List Call) (s : State) (l : List Said) → Ran s₁ cs s l → total (serves p) (history (viewOf s₁) cs) ≡ length ahead
+        → (c : Call) (r : Answer) → Does s c r → serves p (event (viewOf s) c) ≡ 1 → r .released .task ≡ e .task
+    served cs s l h n c r d o =
+        let m = state-of h in
+        ap (λ (x : Answer). x .released .task) (d .same)
+        ∙ ap (λ (x : Model.State). Answers.releasedOf (step x c .answer .released) .task) m
+        ∙ one (step (after (viewOf s₁) cs) c .answer .released) (t .served cs c n (subst (λ (x : Model.State). serves p (event x c) ≡ 1) m o))

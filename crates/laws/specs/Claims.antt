@@ -1,0 +1,35 @@
+-- What is claimed of every run of the program. Definitions only.
+use Prim.Native.Nat.{ℕ, _≤_}
+use mathlib.Core.Path.{_≡_}
+use mathlib.Core.List.{List, [], _∷_, _++_, map}
+use lib.ListN.{length, drop}
+use Rattle.model.specs.State.{Place, Waiter}
+use Rattle.model.specs.Waits.{waitersAt}
+use Rattle.model.specs.Calls.{Call}
+use Rattle.model.specs.History.{event, after, history, total}
+use Rattle.model.specs.Demand3.{Demand3}
+use Rattle.model.specs.Turns.{serves}
+use Rattle.kernel.specs.declared.state.State.{State}
+use Rattle.kernel.specs.declared.state.Answer.{Answer}
+use Rattle.kernel.specs.View.{viewOf}
+use Rattle.kernel.specs.Valid.{Valid}
+use Rattle.kernel.specs.Promises.{Does}
+use Rattle.laws.specs.Runs.{Said, saidIn, Ran}
+
+-- demand 3 of a run from s₀ by the calls cs to s with the answers l
+pub record Whole (s₀ s : State) (cs : List Call) (l : List Said) : Type 0 where
+  -- the claim, about the model's history of these calls
+  pub demand : Demand3 (viewOf s₀) cs
+  -- the state that the program gave is the one that the claim speaks of
+  pub state : viewOf s ≡ after (viewOf s₀) cs
+  -- and so are its answers
+  pub answers : l ≡ map saidIn (history (viewOf s₀) cs)
+
+-- taking turns: e waits at p in the state s₁ with the tasks `ahead` before it
+pub record TakesTurns (s₁ : State) (p : Place) (e : Waiter) (ahead : List Waiter) : Type 0 where
+  -- while no more than k = length ahead calls of the opposite kind were accepted, it waits, with as many fewer ahead
+  pub still : (cs : List Call) (s : State) (l : List Said) → Ran s₁ cs s l → total (serves p) (history (viewOf s₁) cs) ≤ length ahead
+      → (m : List Waiter) × (waitersAt (viewOf s) p ≡ drop (total (serves p) (history (viewOf s₁) cs)) ahead ++ e ∷ m)
+  -- the (k+1)th releases it
+  pub served : (cs : List Call) (s : State) (l : List Said) → Ran s₁ cs s l → total (serves p) (history (viewOf s₁) cs) ≡ length ahead
+      → (c : Call) (r : Answer) → Does s c r → serves p (event (viewOf s) c) ≡ 1 → r .released .task ≡ e .task
