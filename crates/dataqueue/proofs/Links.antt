@@ -47,6 +47,10 @@ popped q k = let r = recordIn q k in withParts q k (withLen r (r .len - 1)) (clo
 abbrev turned : Queues → ℕ → Vector → Queues
 turned q k v = withParts q k (withVector (recordIn q k) v) (q .words)
 
+-- a queue with another buffer
+abbrev withBuffer : Model.Queue → List ℕ → Model.Queue
+withBuffer q b = record { domain = q .domain; attribute = q .attribute; capacity = q .capacity; buffer = b; vector = q .vector }
+
 -- ---- at the form
 module _ (qs : List Model.Queue) (k : ℕ) (h : k < length qs) where
   record-form : getD (pad maxQueues noRecord (laid 0 qs)) k noRecord ≡ recordOf (queueIn qs (suc k)) (start qs k)
@@ -67,9 +71,6 @@ module _ (qs : List Model.Queue) (k : ℕ) (h : k < length qs) where
       let n = length-set qs k x in
       λ i. record { count = sym n i; records = r i; words = e i }
 
-  abbrev withBuffer : List ℕ → Model.Queue
-  withBuffer b = let q = queueIn qs (suc k) in record { domain = q .domain; attribute = q .attribute; capacity = q .capacity; buffer = b; vector = q .vector }
-
   push-form : QueuesFit qs → (w : ℕ) → length (queueIn qs (suc k) .buffer) < queueIn qs (suc k) .capacity → pushed (queuesAs qs) k w ≡ queuesAs (setBuffer qs (suc k) (queueIn qs (suc k) .buffer ++ (w ∷ [])))
   unfolding queuesAs
   push-form f w r =
@@ -79,7 +80,7 @@ module _ (qs : List Model.Queue) (k : ℕ) (h : k < length qs) where
       let n : length (q .buffer) + 1 ≡ length b = sym (length-append (q .buffer) (w ∷ [])) in
       ap (λ (y : Queue). withParts s k (withLen y (y .len + 1)) (set (s .words) (y .first + y .len) w)) record-form
       ∙ (λ i. withParts s k (withLen (recordOf q (start qs k)) (n i)) (set (s .words) (start qs k + length (q .buffer)) w))
-      ∙ queue-form (withBuffer b) refl (set (s .words) (start qs k + length (q .buffer)) w) (words-push f k (withBuffer b) h w (r, (refl, refl)))
+      ∙ queue-form (withBuffer q b) refl (set (s .words) (start qs k + length (q .buffer)) w) (words-push f k (withBuffer q b) h w (r, (refl, refl)))
 
   pop-form : QueuesFit qs → 0 < length (queueIn qs (suc k) .buffer) → popped (queuesAs qs) k ≡ queuesAs (setBuffer qs (suc k) (drop 1 (queueIn qs (suc k) .buffer)))
   unfolding queuesAs
@@ -90,7 +91,7 @@ module _ (qs : List Model.Queue) (k : ℕ) (h : k < length qs) where
       let n : length (q .buffer) - 1 ≡ length b = sym (length-drop 1 (q .buffer)) in
       ap (λ (y : Queue). withParts s k (withLen y (y .len - 1)) (closeUp (y .first) (y .len) (s .words))) record-form
       ∙ (λ i. withParts s k (withLen (recordOf q (start qs k)) (n i)) (closeUp (start qs k) (length (q .buffer)) (s .words)))
-      ∙ queue-form (withBuffer b) refl (closeUp (start qs k) (length (q .buffer)) (s .words)) (words-close f k (withBuffer b) h (r, (refl, refl)))
+      ∙ queue-form (withBuffer q b) refl (closeUp (start qs k) (length (q .buffer)) (s .words)) (words-close f k (withBuffer q b) h (r, (refl, refl)))
 
   vector-form : (v : Vector) → turned (queuesAs qs) k v ≡ queuesAs (setVector qs (suc k) v)
   unfolding queuesAs
@@ -205,7 +206,7 @@ module _ {q : Queues} (h : Held q) (k : ℕ) (l : k < length (queuesOf q)) (n : 
   rest = drop 1 (queueIn (queuesOf q) (suc k) .buffer)
 
   abbrev holding : List ℕ → Model.Queue
-  holding b = let x = queueIn (queuesOf q) (suc k) in record { domain = x .domain; attribute = x .attribute; capacity = x .capacity; buffer = b; vector = x .vector }
+  holding b = withBuffer (queueIn (queuesOf q) (suc k)) b
 
   pop-fits : QueuesFit (setBuffer (queuesOf q) (suc k) rest)
   pop-fits = queues-put (h .fit) (suc k) (holding rest) refl (let f = buffer-fits (h .fit) (suc k) in let g = length-drop 1 (queueIn (queuesOf q) (suc k) .buffer) in omega arith)

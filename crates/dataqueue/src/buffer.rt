@@ -38,6 +38,7 @@ impl Queues {
         queue.len
     }
 
+    // Whether one word more can be buffered.
     pub(crate) fn has_room(self, object: usize) -> bool
         requires { ⌜ Held self × (object < length (queuesOf self)) ⌝ }
         ensures { λ r. ⌜ r ≡ hasRoom (queueIn (queuesOf self) (suc object)) ⌝ }

@@ -70,6 +70,7 @@ impl Queues {
         self.count
     }
 
+    // The vector that calls on a queue are judged by.
     pub fn vector(self, object: usize) -> Vector
         requires { ⌜ Held self × (object < length (queuesOf self)) ⌝ }
         ensures { λ r. ⌜ r ≡ queueIn (queuesOf self) (suc object) .vector ⌝ }
@@ -78,6 +79,7 @@ impl Queues {
         queue.vector
     }
 
+    // Set-vector: all four patterns are replaced.
     pub fn set_vector(mut self, object: usize, vector: Vector) -> Queues
         requires { ⌜ Held self × (object < length (queuesOf self)) ⌝ }
         ensures { λ r. ⌜ r ≡ queuesAs (setVector (queuesOf self) (suc object) vector) ⌝ }

@@ -1,0 +1,5 @@
+pub mod Pick
+pub mod Lines
+pub mod Texts
+pub mod Words
+pub mod Numbers

@@ -1,0 +1,46 @@
+-- `replay::dump::put_objects` is safe and ends. The measure is the count of objects left. Assumes nothing.
+use borrow.Author.Needs.{needs}
+use Prim.Native.Nat.{_-_}
+use Rattle.replay.proofs.dump.put_objects.Statement.{statement}
+use Rattle.replay.proofs.dump.put_objects.Tie as tie
+
+abbrev Inv-loop : tie.InvT-loop
+Inv-loop out₀ at state kind count end₀ k₀ out end k = Unit {0}
+
+abbrev μ-loop : tie.MeasureT-loop
+μ-loop out₀ at state kind count end₀ k₀ out end k = count - k
+
+count-of-requires : tie.Need-count-of-requires Inv-loop μ-loop
+count-of-requires c κs = search needs
+
+loop-holds : tie.Need-loop-holds Inv-loop μ-loop
+loop-holds c = search needs
+
+add-k : tie.Need-add-k Inv-loop μ-loop
+add-k c = search needs
+
+put-object-requires : tie.Need-put-object-requires Inv-loop μ-loop
+put-object-requires c κs = search needs
+
+loop-less : tie.Need-loop-less Inv-loop μ-loop
+loop-less c = search needs
+
+loop-again : tie.Need-loop-again Inv-loop μ-loop
+loop-again c = search needs
+
+returns : tie.Need-returns Inv-loop μ-loop
+returns c = search needs
+
+pub put-objects-spec : {M : Type 1} → statement M
+put-objects-spec =
+    tie.close
+    (tie.spec
+    Inv-loop
+    μ-loop
+    count-of-requires
+    loop-holds
+    add-k
+    put-object-requires
+    loop-less
+    loop-again
+    returns)

@@ -1,0 +1,31 @@
+// Commands from standard input, one to a line, made on the kernel; each with its answer on standard output (docs/replay.md).
+ghost use Rattle.kernel.specs.Valid.{Valid};
+use kernel::state::State;
+use session::Session;
+
+mod dump;
+mod names;
+mod output;
+mod perform;
+mod session;
+mod show;
+
+// A proved loop has to end, and nothing says that the input does. So the loop counts its turns down, from a number that
+// no run uses up.
+fn run(start: State)
+    requires { ⌜ Valid start ⌝ }
+{
+    let mut block = [0u8; 4096];
+    let mut out = [0u8; 4096];
+    let mut session = Session::begin(start);
+    let mut turns = u64::MAX;
+    while turns > 0 && session.going {
+        session = session.turn(&mut block, &mut out);
+        turns -= 1;
+    }
+    session.finish(&mut out);
+}
+
+fn main() {
+    run(State::fresh(0).state);
+}

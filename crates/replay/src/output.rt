@@ -1,0 +1,53 @@
+// The block of output: its bytes go out when it is full or when the program is about to read on.
+use libc::STDOUT_FILENO;
+
+pub const SIZE: usize = 4096;
+
+// Writes the first `at` bytes of the block.
+pub fn flush(out: &[u8], at: usize) {
+    if at <= out.len() {
+        io::write_all(STDOUT_FILENO, &out[..at]);
+    }
+}
+
+// Each of these puts something behind the `at` bytes of the block, and answers how many there are then.
+pub fn put_byte(out: &mut [u8; 4096], at: usize, byte: u8) -> usize {
+    if at < SIZE {
+        out[at] = byte;
+        return at + 1;
+    }
+    flush(out, at);
+    out[0] = byte;
+    1
+}
+
+pub fn put(out: &mut [u8; 4096], at: usize, text: &[u8]) -> usize {
+    let mut end = at;
+    let mut i = 0;
+    while i < text.len() {
+        end = put_byte(out, end, text[i]);
+        i += 1;
+    }
+    end
+}
+
+pub fn put_number(out: &mut [u8; 4096], at: usize, number: u64) -> usize {
+    let mut digits = [0u8; 20];
+    let count = io::decimal(number, &mut digits);
+    put(out, at, &digits[..count])
+}
+
+// A text and a number after it, as `count=3`.
+pub fn put_named(out: &mut [u8; 4096], at: usize, name: &[u8], number: u64) -> usize {
+    let end = put(out, at, name);
+    put_number(out, end, number)
+}
+
+pub fn put_signed(out: &mut [u8; 4096], at: usize, number: i32) -> usize {
+    let wide = number as i64;
+    if wide < 0 {
+        let end = put_byte(out, at, b'-');
+        return put_number(out, end, (0 - wide) as u64);
+    }
+    put_number(out, at, wide as u64)
+}
