@@ -1,7 +1,6 @@
 -- View and form belong together, and every operation keeps the condition. Assumes nothing.
-use mathlib.Core.Path.{_≡_, refl, sym, ap, _∙_, subst}
+use mathlib.Core.Path.{_≡_, sym, ap, _∙_, subst}
 use lib.IntN.{ℤ}
-use lib.ListN.{length}
 use Rattle.itron.specs.Codes.{Err, error}
 use Rattle.model.specs.State as Model
 use Rattle.model.specs.Answers.{Out}

@@ -3,7 +3,7 @@ use Prim.Native.Nat.{ℕ, zero, suc, _+_, _-_, _≤_, _<_}
 use native.Mathlib.Omega.{arith}
 use mathlib.Core.Path.{_≡_, refl, sym, ap, _∙_}
 use mathlib.Core.Bool.{Bool, true, false, not, _&&_}
-use mathlib.Core.List.{List, [], _∷_, _++_}
+use mathlib.Core.List.{[], _∷_, _++_}
 use mathlib.Core.Option.{Option, none, some}
 use lib.Dec.{eqb, leb, ltb, ltb→lt, leb→le}
 use lib.IntN.{ℤ, pos, negsuc}
@@ -15,12 +15,12 @@ use Rattle.access.proofs.Ordinals.{ordinal-user, ordinal-none}
 use Rattle.itron.specs.Codes.{Err, eRsatr, ePar, eId, eCtx, eMacv, eOacv, eNomem, eNoid, eObj, eNoexs, eQovr, eTmout, numberOf, okNumber}
 use Rattle.itron.specs.Limits.{maxDomains, maxTasks, maxSemaphores, maxQueues, maxRegions, maxWords}
 use Rattle.model.specs.State as Model
-use Rattle.model.specs.Answers.{Out, resultOf, refuseIf}
+use Rattle.model.specs.Answers.{resultOf, refuseIf}
 use Rattle.model.specs.Queues.{wordsUsed}
 use Rattle.model.specs.Regions.{judge}
 use Rattle.model.specs.Verdict.{verdict}
 use Rattle.model.proofs.Table.{taken}
-use Rattle.model.specs.Table.{Entry, task, sem, queue, region, owns, ownsTask, checkEntry, newSem, newQueue, newRegion, add, enterBy, enter, emptyState, fresh, shut, closeBy, close}
+use Rattle.model.specs.Table.{Entry, task, sem, queue, region, owns, ownsTask, checkEntry, newSem, newQueue, newRegion, add, enterBy, enter, emptyState, fresh, closeBy, close}
 use Rattle.tasks.specs.declared.state.Tasks.{Tasks}
 use Rattle.tasks.specs.Form.{tasksAs}
 use Rattle.semaphore.specs.declared.state.Semaphores.{Semaphores}

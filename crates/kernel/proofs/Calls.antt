@@ -1,15 +1,13 @@
 -- From the checks and the effect to a call's answer. Assumes nothing.
-use Prim.Native.Nat.{ℕ, zero, suc, _≤_, _<_}
+use Prim.Native.Nat.{ℕ, zero, suc, _<_}
 use native.Mathlib.Omega.{arith}
 use mathlib.Core.Path.{_≡_, refl, sym, ap, _∙_}
 use mathlib.Core.Logic.{_≢_}
 use mathlib.Core.Option.{Option, none, some}
-use lib.IntN.{ℤ, pos, negsuc}
-use lib.ListN.{length}
+use lib.IntN.{ℤ}
 use Rattle.access.specs.declared.vector.Vector.{Vector}
 use Rattle.arrays.specs.Pad.{index}
 use Rattle.itron.specs.Codes.{Err, numberOf, okNumber}
-use Rattle.model.specs.State as Model
 use Rattle.model.specs.State.{Queue, zeroVector}
 use Rattle.model.specs.declared.Semaphore.{Semaphore as Sem}
 use Rattle.model.specs.Answers as Answers
@@ -19,7 +17,7 @@ use Rattle.model.specs.Semaphores as Semaphores
 use Rattle.model.specs.Queues as Queues
 use Rattle.model.specs.Calls.{Op, refer, setVector, call, no, check, numberIn, kindOf, operationOf, onSemaphores, onQueues, infoOf, tells, setVectorOf, act, actIf, step, registered}
 use Rattle.model.specs.declared.Kind.the-variants.{Semaphore as semaphore, Queue as queue}
-use Rattle.model.proofs.Cover.{Passed, passed}
+use Rattle.model.proofs.Cover.{passed}
 use Rattle.tasks.specs.Form.{tasksAs}
 use Rattle.tasks.specs.Held.{Free}
 use Rattle.semaphore.specs.declared.call.Effect as SemaphoreEffect

@@ -1,13 +1,10 @@
 -- The checks of every call, in their order. Assumes nothing.
-use Prim.Native.Nat.{ℕ, zero, suc, _+_, _-_, _≤_, _<_}
+use Prim.Native.Nat.{ℕ, _-_, _≤_, _<_}
 use native.Mathlib.Omega.{arith}
 use mathlib.Core.Path.{_≡_, refl, sym, ap, _∙_}
-use mathlib.Core.Bool.{Bool, true, false, not, _&&_}
-use mathlib.Core.List.{List, [], _∷_}
-use mathlib.Core.Option.{Option, none, some}
-use lib.Dec.{eqb, leb}
-use lib.IntN.{ℤ, pos, negsuc}
-use lib.ListN.{length, getD}
+use mathlib.Core.Bool.{Bool, true, false, _&&_}
+use mathlib.Core.List.{[], _∷_}
+use lib.IntN.{ℤ}
 use types.Run.{OneOf}
 use denote.Enum.Declared.{tagOf}
 use borrow.Author.Tests.{le-leb, lt-leb}
@@ -15,18 +12,16 @@ use Rattle.access.specs.Patterns.{pick, admitted}
 use Rattle.access.specs.Vectors.{patternOf}
 use Rattle.access.specs.declared.vector.Operation.{Operation}
 use Rattle.arrays.specs.Pad.{index}
-use Rattle.itron.specs.Codes.{Err, eCtx, eId, eNoexs, eOacv, numberOf}
+use Rattle.itron.specs.Codes.{eCtx, eId, eNoexs, eOacv, numberOf}
 use Rattle.model.specs.State as Model
 use Rattle.model.specs.State.{domainAt}
-use Rattle.model.specs.Answers.{refuseIf}
-use Rattle.model.specs.Calls.{no, ready, check, inRange, most, registered, vectorAt}
+use Rattle.model.specs.Calls.{ready, check, inRange, registered, vectorAt}
 use Rattle.model.specs.declared.Kind.{Kind}
 use Rattle.model.specs.declared.Kind.the-variants.{Semaphore, Queue}
 use Rattle.model.proofs.Kind.{the-type as kind-type}
 use Rattle.tasks.specs.declared.wait.Caller.{Caller}
 use Rattle.tasks.specs.declared.wait.Caller.the-variants as Caller
 use Rattle.tasks.proofs.wait.Caller.{the-type as caller-type}
-use Rattle.kernel.specs.declared.check.Check.{Check}
 use Rattle.kernel.specs.declared.check.Check.the-variants.{Refused, Admitted}
 use Rattle.kernel.specs.Answers.{callerIn, checked}
 

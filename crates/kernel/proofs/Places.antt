@@ -1,13 +1,11 @@
 -- Nobody waits at an object without a number. Assumes nothing.
-use Prim.Native.Nat.{ℕ, zero, suc}
+use Prim.Native.Nat.{ℕ}
 use mathlib.Core.Path.{_≡_, refl, sym, ap, _∙_}
-use mathlib.Core.Logic.{_≢_}
 use mathlib.Core.Bool.{Bool, true, false, _&&_}
 use mathlib.Core.List.{List, [], _∷_, map}
-use lib.Dec.{eqb}
 use lib.ListN.{getD}
 use Rattle.model.specs.Lists.{All, consIf, keep}
-use Rattle.model.specs.State.{Waiter, Place, State, place, sameSide}
+use Rattle.model.specs.State.{Waiter, State, place, sameSide}
 use Rattle.model.specs.declared.Side.{Side}
 use Rattle.model.specs.Waits.{standsAt, waitersAt}
 use Rattle.model.specs.Conditions.{Plain, Sound}

@@ -1,6 +1,6 @@
 // The checks with which every call begins (document 01, "Calls on an open gateway").
 ghost use mathlib.Core.Path.{_≡_};
-ghost use Prim.Native.Nat.{ℕ, suc, _<_};
+ghost use Prim.Native.Nat.{suc, _<_};
 ghost use Rattle.model.specs.Calls as Model;
 ghost use Rattle.model.specs.Calls.{no, vectorAt};
 ghost use Rattle.kernel.specs.View.{viewOf};

@@ -1,6 +1,4 @@
 // The calls on data queues: both sends, both receives, refer and set-vector.
-ghost use mathlib.Core.Path.{_≡_};
-ghost use Prim.Native.Nat.{ℕ};
 ghost use Rattle.model.specs.Calls as Model;
 ghost use Rattle.model.specs.Calls.{call};
 ghost use Rattle.model.specs.declared.Kind.the-variants as Kinds;

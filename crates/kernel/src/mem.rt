@@ -1,6 +1,5 @@
 // The memory verdict.
 ghost use mathlib.Core.Path.{_≡_};
-ghost use Prim.Native.Nat.{ℕ};
 ghost use Rattle.model.specs.Answers.{resultOf};
 ghost use Rattle.model.specs.Verdict.{verdict};
 ghost use Rattle.kernel.specs.View.{viewOf};

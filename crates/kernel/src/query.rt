@@ -1,7 +1,6 @@
 // Read-only queries: what a dump of the state shows. Objects by number, from 1; what is not there is all zeros.
 ghost use mathlib.Core.Path.{_≡_};
 ghost use mathlib.Core.List.{map};
-ghost use Prim.Native.Nat.{ℕ};
 ghost use lib.ListN.{length, getD};
 ghost use Rattle.model.specs.Lists.{at};
 ghost use Rattle.model.specs.State.{semAt, queueAt, noRegion, place};

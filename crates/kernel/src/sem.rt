@@ -1,6 +1,4 @@
 // The calls on semaphores: signal, poll, wait, refer and set-vector.
-ghost use mathlib.Core.Path.{_≡_};
-ghost use Prim.Native.Nat.{ℕ};
 ghost use Rattle.model.specs.Calls as Model;
 ghost use Rattle.model.specs.Calls.{call};
 ghost use Rattle.model.specs.declared.Kind.the-variants as Kinds;
@@ -16,7 +14,6 @@ use itron::code::E_OK;
 use model::Kind;
 use model::Patience;
 use model::Reply;
-use semaphore::call::Effect;
 use semaphore::call::acquire;
 use semaphore::call::refer;
 use semaphore::call::signal;

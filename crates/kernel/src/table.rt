@@ -1,8 +1,6 @@
 // Building the table: fresh, the entries, closing (document 01, "Building the table").
 ghost use mathlib.Core.Path.{_≡_};
-ghost use mathlib.Core.Bool.{Bool};
 ghost use mathlib.Core.Option.{none};
-ghost use Prim.Native.Nat.{ℕ, _≤_};
 ghost use Rattle.model.specs.Answers.{resultOf};
 ghost use Rattle.model.specs.Table.{emptyState, fresh, owns, ownsTask, checkEntry, enter, task, sem, queue, region, close};
 ghost use Rattle.kernel.specs.View.{viewOf};
@@ -15,7 +13,6 @@ use crate::state::State;
 use access::domain::KERNEL_DOMAIN;
 use access::domain::NO_DOMAIN;
 use access::domain::ordinal;
-use access::vector::Vector;
 use dataqueue::entry::QueueEntry;
 use dataqueue::state::Queues;
 use itron::code::E_CTX;

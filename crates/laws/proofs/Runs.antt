@@ -12,11 +12,11 @@ use Rattle.itron.specs.Limits.{maxDomains}
 use Rattle.model.specs.Lists.{All, at}
 use Rattle.model.specs.State as Model
 use Rattle.model.specs.State.{Queue, Place, Waiter, noQueue}
-use Rattle.model.specs.Answers.{Info, Out, done, noInfo, replyOf, plain, codeOf}
+use Rattle.model.specs.Answers.{Out, done, replyOf, plain, codeOf}
 use Rattle.model.specs.Waits.{waitersAt}
 use Rattle.model.specs.Table.{Entry, task, sem, queue, region, fresh, freshBy, emptyState, enter, enterBy, add, checkEntry, close, closeBy, shut}
-use Rattle.model.specs.Calls.{Call, call, refer, step, check, operationOf, actIf, act, no}
-use Rattle.model.specs.History.{Event, event, after, history, total}
+use Rattle.model.specs.Calls.{Call, call, refer, step, check, operationOf, actIf, no}
+use Rattle.model.specs.History.{event, after, history, total}
 use Rattle.model.specs.Demand3.{JustClosed}
 use Rattle.model.specs.Turns.{serves, tasksOf, InTurn}
 use Rattle.model.specs.declared.Kind.{Kind}
@@ -30,11 +30,9 @@ use Rattle.model.proofs.Turns.{in-turn}
 use Rattle.kernel.specs.declared.state.State.{State}
 use Rattle.kernel.specs.declared.state.Answer.{Answer}
 use Rattle.kernel.specs.declared.state.Entered.{Entered}
-use Rattle.kernel.specs.declared.sem.SemaphoreReport.{SemaphoreReport}
-use Rattle.kernel.specs.declared.dtq.QueueReport.{QueueReport}
 use Rattle.kernel.specs.View.{viewOf}
 use Rattle.kernel.specs.Valid.{Valid}
-use Rattle.kernel.specs.Promises.{Begins, Enters, Does, TellsSemaphore, TellsQueue}
+use Rattle.kernel.specs.Promises.{Enters, Does}
 use Rattle.laws.specs.Runs.{Built, begun, entered, Said, saidBy, saidIn, toldOfSemaphore, toldOfQueue, Ran, start, calls, refersSemaphore, refersQueue}
 use Rattle.laws.specs.Claims.{Whole, TakesTurns}
 

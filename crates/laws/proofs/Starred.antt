@@ -1,6 +1,6 @@
 -- The starred runs of document 01, proved together. Assumes nothing.
 use mathlib.Core.Path.{_≡_, refl, ap, _∙_}
-use mathlib.Core.List.{List, [], _∷_, map}
+use mathlib.Core.List.{List, map}
 use Rattle.access.specs.Patterns.{admitted}
 use Rattle.model.specs.State as Model
 use Rattle.model.specs.Table.{enter, fresh, close}
@@ -11,7 +11,7 @@ use Rattle.model.specs.History.{history}
 use Rattle.kernel.specs.declared.state.State.{State}
 use Rattle.kernel.specs.View.{viewOf}
 use Rattle.laws.specs.Runs.{Said, saidIn, Ran}
-use Rattle.laws.specs.Starred.{Item, Result, Step, bench, run, starred}
+use Rattle.laws.specs.Starred.{Step, bench, run, starred}
 use Rattle.laws.proofs.Runs.{answers-of}
 
 pub starred-runs : run bench (map (λ (x : Step). x .item) starred) ≡ map (λ (x : Step). x .result) starred

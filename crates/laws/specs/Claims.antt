@@ -1,7 +1,7 @@
 -- What is claimed of every run of the program. Definitions only.
-use Prim.Native.Nat.{ℕ, _≤_}
+use Prim.Native.Nat.{_≤_}
 use mathlib.Core.Path.{_≡_}
-use mathlib.Core.List.{List, [], _∷_, _++_, map}
+use mathlib.Core.List.{List, _∷_, _++_, map}
 use lib.ListN.{length, drop}
 use Rattle.model.specs.State.{Place, Waiter}
 use Rattle.model.specs.Waits.{waitersAt}
@@ -12,7 +12,6 @@ use Rattle.model.specs.Turns.{serves}
 use Rattle.kernel.specs.declared.state.State.{State}
 use Rattle.kernel.specs.declared.state.Answer.{Answer}
 use Rattle.kernel.specs.View.{viewOf}
-use Rattle.kernel.specs.Valid.{Valid}
 use Rattle.kernel.specs.Promises.{Does}
 use Rattle.laws.specs.Runs.{Said, saidIn, Ran}
 

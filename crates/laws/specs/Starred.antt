@@ -11,7 +11,7 @@ use Rattle.model.specs.State.{semAt, queueAt}
 use Rattle.model.specs.Answers.{Answer}
 use Rattle.model.specs.Table.{Entry, task, sem, queue, region, fresh, enter, close}
 use Rattle.model.specs.Verdict.{verdict}
-use Rattle.model.specs.Calls.{Op, Call, call, signal, acquire, send, receive, setVector, step}
+use Rattle.model.specs.Calls.{Op, call, signal, acquire, send, receive, setVector, step}
 use Rattle.model.specs.declared.Released.{Released}
 use Rattle.model.specs.declared.Kind.the-variants.{Semaphore}
 use Rattle.model.specs.declared.Patience.the-variants.{Polling, Forever}

@@ -4,10 +4,10 @@ use mathlib.Core.List.{List, []}
 use Prim.Native.Nat.{ℕ}
 use Rattle.access.specs.Vectors.{patternOf}
 use Rattle.itron.specs.Codes.{waiting}
-use Rattle.model.specs.Lists.{put, keep}
+use Rattle.model.specs.Lists.{put}
 use Rattle.model.specs.State.{Vector, Sem, Queue, Waiter, State}
 use Rattle.model.specs.Answers.{Out, out, say}
-use Rattle.model.specs.Waits.{Patience, isOther}
+use Rattle.model.specs.Waits.{Patience}
 use Rattle.model.specs.Waits as Waits
 use Rattle.model.specs.Semaphores as Semaphores
 use Rattle.model.specs.Queues as Queues

@@ -1,22 +1,21 @@
 -- One case analysis of `step` for all laws: a claim P of a call and what it gives holds if it holds in each of the fourteen cases
-use mathlib.Core.Path.{_≡_, refl, sym, ap, _∙_, subst}
+use mathlib.Core.Path.{_≡_, refl, sym}
 use mathlib.Core.Logic.{_≢_}
-use mathlib.Core.Bool.{Bool, true, false, not, _&&_, _||_}
-use mathlib.Core.List.{List, [], _∷_, _++_, map}
+use mathlib.Core.Bool.{Bool, true, false, not, _&&_}
+use mathlib.Core.List.{List, [], _∷_, _++_}
 use mathlib.Core.Option.{Option, none, some}
-use Prim.Native.Nat.{ℕ, zero, suc, _+_, _≤_, _<_}
+use Prim.Native.Nat.{ℕ, zero, suc, _+_, _≤_}
 use lib.ListN.{length}
-use lib.Dec.{eqb, ltb, leb, T, leb→le}
+use lib.Dec.{eqb, ltb, leb, leb→le}
 use lib.IntN.{ℤ}
 pub use Rattle.model.specs.Calls.{call}
-use Rattle.itron.specs.Codes.{Err, eCtx, eId, eNoexs, eOacv, eQovr, eTmout, Code, ok, waiting, error}
-use Rattle.model.proofs.Cases.{patternFor, setCount, setBuffer, release, join, waits-as, signalOf, acquireOf, sendOf, receiveOf}
-use Rattle.model.specs.Answers.{Released, Answer, Out, refuseIf, say, out, refuse, done}
+use Rattle.itron.specs.Codes.{Err, eQovr, eTmout, ok}
+use Rattle.model.proofs.Cases.{patternFor, setCount, setBuffer, release, waits-as, signalOf, acquireOf, sendOf, receiveOf}
+use Rattle.model.specs.Answers.{Out, refuseIf, say, out, refuse, done}
 use Rattle.model.specs.Calls.{Kind, semaphore, queue, Op, signal, acquire, send, receive, refer, setVector, Call, no, vectorAt, admits, kindOf, numberIn, operationOf, registered, ready, inRange, most, check, infoOf, setVectorOf, act, actIf, step}
-use Rattle.model.specs.Lists.{at}
-use Rattle.model.specs.State.{Vector, Sem, Queue, Side, onSem, receiving, sending, Place, Waiter, State, place, semAt, queueAt, domainAt, waiter}
+use Rattle.model.specs.State.{Vector, onSem, receiving, sending, Waiter, State, place, semAt, queueAt, domainAt, waiter}
 use Rattle.model.specs.Waits.{Patience, polling, forever, senders, receivers, waitersAt, absent, freed}
-use Rattle.model.proofs.Lists.{and-left, and-right, no-both, eqb-same}
+use Rattle.model.proofs.Lists.{and-left, and-right, no-both}
 
 -- what the checks leave
 pub record Passed (s : State) (t : ℕ) (op : Op) (n : ℕ) (k : Kind) : Type 0 where

@@ -1,25 +1,24 @@
 -- Demand 3, proved
 use mathlib.Core.Path.{_≡_, refl, sym, ap, _∙_, subst}
-use mathlib.Core.Logic.{_≢_, _⊎_, inl, inr}
-use mathlib.Core.Bool.{Bool, true, false, not, _&&_, _||_}
-use mathlib.Core.List.{List, [], _∷_, _++_, map, reverse, append-assoc, append-nil}
-use Prim.Native.Nat.{ℕ, zero, suc, _+_, _≤_, _<_}
+use mathlib.Core.Logic.{inl}
+use mathlib.Core.Bool.{Bool, true, false, not}
+use mathlib.Core.List.{List, [], _∷_, _++_, map, append-assoc}
+use Prim.Native.Nat.{ℕ, zero, _+_}
 use native.Mathlib.Omega.{arith}
-use lib.ListN.{length}
-use lib.Dec.{eqb, ltb, leb, T}
+use lib.Dec.{eqb, T}
 use lib.IntN.{ℤ, pos}
-use Rattle.itron.specs.Codes.{Err, Code, ok, waiting, error}
-use Rattle.model.proofs.Cases.{patternFor, setWaits, setCount, setBuffer, release, join, waits-as}
-use Rattle.model.specs.Answers.{Released, Answer, Out, say, out, refuse, done}
-use Rattle.model.specs.Calls.{Kind, semaphore, queue, Op, signal, acquire, send, receive, refer, setVector, Call, no, vectorAt, admits, registered, kindOf, numberIn, infoOf, setVectorOf, step}
-use Rattle.model.specs.Demand3.{Sender, senderOf, notTask, unreleased, sendBegun, waitingSends, wordsIn, isWaiting, choose, began, maySend, mayReceive, mayAt, Came, SentAllowed, TakenIn, TakenBy, TakenAllowed, Demand3, JustClosed}
-use Rattle.model.specs.History.{without, Event, History, event, after, history, handed, handedBy, handedIn, sent, sentBy, sentTo, wordsOf, words, total, pending, joined, joinedBy, grants, signals, vectorBy, vectorSince, Each}
-use Rattle.model.specs.Lists.{at, put, keep, consIf, only, All}
-use Rattle.model.specs.State.{Vector, Fixed, Sem, Queue, Side, onSem, receiving, sending, Place, Waiter, State, place, samePlace, semAt, queueAt, domainAt, waiter}
-use Rattle.model.specs.Waits.{Patience, polling, forever, standsAt, isOther, absent, senders, receivers, waitersAt, freed}
-use Rattle.model.proofs.Lists.{all-keep, all-snoc, keep-append, keep-comm, eq-of, ne-of, no-both, eqb-same, eqb-no, eqb-sym, and-left, and-right, Distinct}
-use Rattle.model.proofs.Cover.{Passed, Covers, call, cover}
-use Rattle.model.proofs.Queues.{QView, qview, qviewOf, content, QueueOk, Kept, place-of}
+use Rattle.itron.specs.Codes.{Code, ok, waiting, error}
+use Rattle.model.proofs.Cases.{patternFor, waits-as}
+use Rattle.model.specs.Answers.{Released, Out, say}
+use Rattle.model.specs.Calls.{Kind, semaphore, queue, Op, signal, acquire, send, receive, refer, setVector, Call, no, vectorAt, admits, kindOf, numberIn, setVectorOf, step}
+use Rattle.model.specs.Demand3.{Sender, senderOf, notTask, unreleased, sendBegun, waitingSends, isWaiting, choose, began, maySend, mayAt, Came, SentAllowed, TakenBy, TakenAllowed, Demand3, JustClosed}
+use Rattle.model.specs.History.{without, Event, History, event, after, history, handed, sent, sentBy, sentTo, words, total, pending, joined, joinedBy, grants, signals, vectorBy, vectorSince, Each}
+use Rattle.model.specs.Lists.{at, keep, consIf, only, All}
+use Rattle.model.specs.State.{Vector, Fixed, onSem, receiving, sending, Place, Waiter, State, place, semAt, domainAt, waiter}
+use Rattle.model.specs.Waits.{forever, standsAt, isOther, absent, senders, waitersAt}
+use Rattle.model.proofs.Lists.{all-keep, all-snoc, keep-append, keep-comm, eq-of, eqb-same, eqb-sym, and-left, and-right, Distinct}
+use Rattle.model.proofs.Cover.{Covers, call, cover}
+use Rattle.model.proofs.Queues.{qviewOf, content, QueueOk, place-of}
 use Rattle.model.proofs.Steps.{queue-law, wait-law, distinct-law, count-law, vector-law, fixed-law}
 
 -- ---- claims about every element

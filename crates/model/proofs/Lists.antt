@@ -1,19 +1,17 @@
 -- Laws of the list functions of Core, once for all
 use mathlib.Core.Path.{_≡_, refl, sym, ap, _∙_, subst}
 use mathlib.Core.Logic.{_≢_}
-use mathlib.Core.Bool.{Bool, true, false, not, _&&_, _||_}
-use mathlib.Core.List.{List, [], _∷_, _++_, map, append-assoc, append-nil}
+use mathlib.Core.Bool.{Bool, true, false, not, _&&_}
+use mathlib.Core.List.{List, [], _∷_, _++_}
 use Prim.Native.Nat.{ℕ, zero, suc, _+_, _-_, _≤_, _<_}
 use native.Mathlib.Omega.{arith}
 use lib.ListN.{length, getD, set}
 use lib.Seq.{getD-set-same, getD-set-other}
-use lib.Dec.{eqb, ltb, leb, T, eqb→eq, eqb-refl, leb→le}
+use lib.Dec.{eqb, T, eqb→eq, eqb-refl}
 pub use Rattle.model.specs.Conditions.{Distinct}
-use Rattle.model.specs.Answers.{Released}
-use Rattle.model.specs.History.{without}
-use Rattle.model.specs.Lists.{at, put, consIf, keep, only, All}
-use Rattle.model.specs.State.{Waiter, Place, Side, sameSide, place}
-use Rattle.model.specs.Waits.{isOther, absent, standsAt}
+use Rattle.model.specs.Lists.{at, put, consIf, keep, All}
+use Rattle.model.specs.State.{Waiter, place}
+use Rattle.model.specs.Waits.{isOther, absent}
 
 -- ---- tests
 pub eq-of : (m n : ℕ) → eqb m n ≡ true → m ≡ n

@@ -2,19 +2,19 @@
 use mathlib.Core.Path.{_≡_, refl, sym, ap, _∙_, subst}
 use mathlib.Core.Logic.{_≢_}
 use mathlib.Core.Logic.{_⊎_, inl, inr}
-use mathlib.Core.Bool.{Bool, true, false, not, _&&_, _||_}
-use mathlib.Core.List.{List, [], _∷_, _++_, map, append-assoc, append-nil}
-use Prim.Native.Nat.{ℕ, zero, suc, _+_, _≤_, _<_}
+use mathlib.Core.Bool.{Bool, true, false, _&&_}
+use mathlib.Core.List.{List, [], _∷_, _++_, append-assoc, append-nil}
+use Prim.Native.Nat.{ℕ, suc, _+_, _≤_, _<_}
 use native.Mathlib.Omega.{arith}
 use lib.ListN.{length, length-append}
-use lib.Dec.{eqb, ltb, leb, T, ltb→lt, nltb→le}
+use lib.Dec.{eqb}
 pub use Rattle.model.specs.Conditions.{QView, qview, qviewOf, QueueOk}
-use Rattle.model.proofs.Cases.{setBuffer, release, join}
+use Rattle.model.proofs.Cases.{release, join}
 use Rattle.model.specs.Demand3.{wordsIn}
-use Rattle.model.specs.Lists.{keep, only, consIf, put, at}
-use Rattle.model.specs.State.{Waiter, Place, Side, onSem, receiving, sending, State, Queue, place, sameSide, samePlace, queueAt, noQueue}
-use Rattle.model.specs.Waits.{standsAt, waitersAt, senders, receivers, isOther}
-use Rattle.model.proofs.Lists.{eq-of, ne-of, no-both, and-left, and-right, eqb-same, eqb-no, keep-append, Distinct, leave-same, leave-other, at-put-same, at-put-other}
+use Rattle.model.specs.Lists.{consIf, at}
+use Rattle.model.specs.State.{Waiter, Place, Side, onSem, receiving, sending, State, place, sameSide, samePlace}
+use Rattle.model.specs.Waits.{standsAt, waitersAt, senders, receivers}
+use Rattle.model.proofs.Lists.{eq-of, ne-of, no-both, and-left, and-right, eqb-same, eqb-no, keep-append, Distinct, leave-same, leave-other}
 
 pub qview-eq : {c c′ : ℕ} {b b′ : List ℕ} {x x′ y y′ : List Waiter} → c ≡ c′ → b ≡ b′ → x ≡ x′ → y ≡ y′ → qview c b x y ≡ qview c′ b′ x′ y′
 qview-eq p q r s = λ i. record { capacity = p i; buffer = q i; senders = r i; receivers = s i }

@@ -1,28 +1,26 @@
 -- The rest of the condition that all states have in common: what the program's arithmetic and arrays need
 use mathlib.Core.Path.{_≡_, refl, sym, ap, _∙_, subst, subst₂}
-use mathlib.Core.Logic.{_≢_, _⊎_, inl, inr}
-use mathlib.Core.Bool.{Bool, true, false, not, _&&_, _||_}
-use mathlib.Core.List.{List, [], _∷_, _++_, map}
+use mathlib.Core.Logic.{_≢_, inl, inr}
+use mathlib.Core.Bool.{Bool, true, false, not}
+use mathlib.Core.List.{List, [], _∷_, _++_}
 use Prim.Native.Nat.{ℕ, zero, suc, _+_, _≤_, _<_}
 use native.Mathlib.Omega.{arith}
 use lib.ListN.{length, length-append, length-set}
-use lib.Dec.{eqb, ltb, leb, T, nleb→lt}
+use lib.Dec.{eqb, leb, nleb→lt}
 use lib.IntN.{ℤ}
-use Rattle.itron.specs.Codes.{Err, eCtx}
-use Rattle.model.proofs.Cases.{setWaits, setCount, setBuffer, setSem, setQueue, release, join}
+use Rattle.itron.specs.Codes.{eCtx}
+use Rattle.model.proofs.Cases.{setCount, setSem, setQueue, release, join}
 use Rattle.model.specs.Answers.{Out, refuse}
-use Rattle.model.specs.Calls.{Kind, semaphore, queue, Op, signal, acquire, send, receive, refer, setVector, Call, no, setVectorOf, step, check}
-use Rattle.model.specs.Conditions.{WaitsFit, QueuesFit, Within, Spent, Known, Plain, WordFits, BufferFits, Fit, Sound}
-use Rattle.model.specs.Demand3.{JustClosed}
-use Rattle.model.specs.History.{Event, event, after, history}
+use Rattle.model.specs.Calls.{Kind, semaphore, queue, Call, no, setVectorOf, step, check}
+use Rattle.model.specs.Conditions.{WaitsFit, QueuesFit, Within, Spent, Known, Plain, BufferFits, Fit, Sound}
 use Rattle.model.specs.Lists.{at, put, keep, consIf, All}
 use Rattle.model.specs.Queues.{wordsUsed}
-use Rattle.model.specs.State.{Vector, Fixed, Sem, Queue, Side, onSem, receiving, sending, Place, Waiter, State, place, samePlace, noSem, noQueue, semAt, queueAt, waiter}
-use Rattle.model.specs.Waits.{Patience, forever, standsAt, isOther, absent, senders, receivers, waitersAt}
-use Rattle.model.proofs.Lists.{all-keep, all-snoc, all-put, eq-of, ne-of, no-both, eqb-same, eqb-no, and-left, and-right, Distinct, distinct-keep, distinct-snoc, keep-absent, at-put-same, at-put-other, at-put-keep}
-use Rattle.model.proofs.Cover.{Passed, Covers, call, cover}
-use Rattle.model.proofs.Queues.{release-same, release-other, join-same, join-other, unlike, alike}
-use Rattle.model.proofs.Steps.{lt-of, ge-of, distinct-law, fixed-law, queue-law}
+use Rattle.model.specs.State.{Vector, Fixed, Sem, Queue, onSem, receiving, sending, Place, Waiter, State, place, samePlace, noSem, noQueue, semAt, queueAt, waiter}
+use Rattle.model.specs.Waits.{isOther, absent, waitersAt}
+use Rattle.model.proofs.Lists.{all-keep, all-snoc, all-put, eq-of, ne-of, Distinct, distinct-keep, distinct-snoc, keep-absent, at-put-same, at-put-other, at-put-keep}
+use Rattle.model.proofs.Cover.{Covers, call, cover}
+use Rattle.model.proofs.Queues.{release-other, join-other, unlike}
+use Rattle.model.proofs.Steps.{lt-of, fixed-law, queue-law}
 
 gt-of : (m n : ℕ) → leb m n ≡ false → n < m
 gt-of m n h = nleb→lt m n (rw h tt)

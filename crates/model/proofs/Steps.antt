@@ -1,25 +1,24 @@
 -- What one call does: to each queue, to the waiting tasks, to each semaphore, to each vector
-use mathlib.Core.Path.{_≡_, refl, sym, ap, _∙_, subst}
-use mathlib.Core.Logic.{_≢_, _⊎_, inl, inr}
-use mathlib.Core.Bool.{Bool, true, false, not, _&&_, _||_}
-use mathlib.Core.List.{List, [], _∷_, _++_, map, append-assoc, append-nil}
-use Prim.Native.Nat.{ℕ, zero, suc, _+_, _≤_, _<_}
+use mathlib.Core.Path.{_≡_, refl, sym, ap, _∙_}
+use mathlib.Core.Logic.{_≢_}
+use mathlib.Core.Bool.{Bool, true, false, _&&_}
+use mathlib.Core.List.{List, [], _∷_, _++_, append-nil}
+use Prim.Native.Nat.{ℕ, suc, _+_, _≤_, _<_}
 use native.Mathlib.Omega.{arith}
-use lib.ListN.{length, length-append}
-use lib.Dec.{eqb, ltb, leb, T, ltb→lt, nltb→le}
+use lib.ListN.{length}
+use lib.Dec.{eqb, ltb, ltb→lt, nltb→le}
 use lib.IntN.{ℤ}
 use Rattle.itron.specs.Codes.{Err, Code, ok, waiting, error}
-use Rattle.model.proofs.Cases.{patternFor, setWaits, setCount, setBuffer, release, join, waits-as}
-use Rattle.model.specs.Answers.{noInfo, Released, Answer, Out, say, out, refuse, done}
-use Rattle.model.specs.Calls.{isRefer, Kind, semaphore, queue, Op, signal, acquire, send, receive, refer, setVector, Call, no, vectorAt, admits, registered, kindOf, numberIn, infoOf, setVectorOf, step}
-use Rattle.model.specs.Demand3.{wordsIn}
-use Rattle.model.specs.History.{without, Event, event, handed, handedBy, sent, sentBy, wordsOf, joined, joinedBy, grants, grantBy, signals, signalBy, countIf, vectorBy, either, sameKind}
-use Rattle.model.specs.Lists.{at, put, keep, only}
-use Rattle.model.specs.State.{Vector, Sem, Queue, Side, onSem, receiving, sending, Place, Waiter, State, place, samePlace, noSem, noQueue, semAt, queueAt, domainAt, waiter}
-use Rattle.model.specs.Waits.{Patience, polling, forever, standsAt, isOther, absent, senders, receivers, waitersAt, freed}
-use Rattle.model.proofs.Lists.{eq-of, ne-of, no-both, eqb-same, eqb-no, Distinct, distinct-keep, distinct-snoc, at-put-same, at-put-other, at-put-keep}
-use Rattle.model.proofs.Cover.{Passed, Covers, call, cover}
-use Rattle.model.proofs.Queues.{QView, qview, qview-eq, qviewOf, QueueOk, Kept, stay, split, via, pass, store, queueUp, take, refill, direct, await, release-same, release-other, join-same, join-other, unlike, alike}
+use Rattle.model.proofs.Cases.{setWaits, setCount, setBuffer, release, join}
+use Rattle.model.specs.Answers.{noInfo, Out}
+use Rattle.model.specs.Calls.{isRefer, Kind, semaphore, queue, refer, Call, no, vectorAt, registered, setVectorOf, step}
+use Rattle.model.specs.History.{without, event, handed, handedBy, sent, sentBy, joined, joinedBy, grants, grantBy, signals, signalBy, countIf, vectorBy, either, sameKind}
+use Rattle.model.specs.Lists.{at, only}
+use Rattle.model.specs.State.{Vector, Sem, Queue, Side, onSem, receiving, sending, Waiter, State, place, samePlace, noSem, noQueue, semAt, queueAt, waiter}
+use Rattle.model.specs.Waits.{isOther, waitersAt}
+use Rattle.model.proofs.Lists.{eq-of, ne-of, no-both, Distinct, distinct-keep, distinct-snoc, at-put-same, at-put-other, at-put-keep}
+use Rattle.model.proofs.Cover.{Covers, call, cover}
+use Rattle.model.proofs.Queues.{qview, qview-eq, qviewOf, QueueOk, Kept, stay, split, via, pass, store, queueUp, take, refill, direct, await, release-same, release-other, join-same, join-other, unlike, alike}
 
 pub lt-of : (m n : ℕ) → ltb m n ≡ true → m < n
 lt-of m n h = ltb→lt m n (rw h tt)

@@ -1,23 +1,21 @@
 -- Fresh, entries and closing give sound states. Assumes nothing.
-use mathlib.Core.Path.{_≡_, refl, sym, ap, _∙_, subst}
-use mathlib.Core.Logic.{_≢_, _⊎_, inl, inr}
-use mathlib.Core.Bool.{Bool, true, false, not, _&&_, _||_}
-use mathlib.Core.List.{List, [], _∷_, _++_, map}
+use mathlib.Core.Path.{_≡_, refl}
+use mathlib.Core.Logic.{inl}
+use mathlib.Core.Bool.{Bool, true, false, not, _&&_}
+use mathlib.Core.List.{List, [], _∷_, _++_}
 use mathlib.Core.Option.{Option, none, some}
 use Prim.Native.Nat.{ℕ, zero, suc, _+_, _≤_, _<_}
 use native.Mathlib.Omega.{arith}
 use lib.ListN.{length, length-append}
-use lib.Dec.{eqb, ltb, leb, T, ltb→lt, leb→le}
+use lib.Dec.{ltb, leb, ltb→lt, leb→le}
 use lib.IntN.{ℤ, pos, negsuc}
 use Rattle.itron.specs.Codes.{Err, ok, error}
-use Rattle.model.specs.Answers.{Out, refuseIf}
-use Rattle.model.specs.Conditions.{BufferFits, WaitsFit, QueuesFit, RegionsFit, Bounded, Ascending, Fit, Within, Spent, QueueOk, qviewOf, Sound}
-use Rattle.model.specs.Lists.{at, keep, All}
+use Rattle.model.specs.Answers.{refuseIf}
+use Rattle.model.specs.Conditions.{BufferFits, Bounded, Ascending, Spent, QueueOk, qviewOf, Sound}
+use Rattle.model.specs.Lists.{at}
 use Rattle.model.specs.Queues.{wordsUsed}
-use Rattle.model.specs.State.{Waiter, Sem, Queue, Region, State, Vector, noSem, noQueue, semAt, queueAt, place, sending, receiving}
-use Rattle.model.specs.Waits.{standsAt}
-use Rattle.model.specs.Table.{Entry, task, sem, queue, region, hasRoom, domainOk, attributeOk, numbersOk, placeOk, memoryOk, checkEntry, newSem, newQueue, newRegion, add, enterBy, enter, emptyState, freshBy, fresh, shut, closeBy, close}
-use Rattle.access.specs.Vectors.{resolved}
+use Rattle.model.specs.State.{Sem, Queue, Region, State, noSem, place}
+use Rattle.model.specs.Table.{Entry, task, sem, queue, region, hasRoom, domainOk, attributeOk, numbersOk, placeOk, memoryOk, checkEntry, newSem, newQueue, newRegion, add, enterBy, enter, emptyState, freshBy, fresh, closeBy, close}
 use Rattle.itron.specs.Limits.{maxTasks, maxSemaphores, maxQueues, maxRegions, maxWords, maxCount, maxDomains, addressEnd}
 use Rattle.model.specs.Regions.{end, lastEnd}
 use Rattle.model.proofs.Lists.{and-left, and-right, no-both, all-snoc}

@@ -1,26 +1,25 @@
 -- A task that waits with k tasks ahead is released by the (k+1)th accepted call of the opposite kind on its object
-use mathlib.Core.Path.{_≡_, refl, sym, ap, _∙_, subst}
-use mathlib.Core.Logic.{_≢_, _⊎_, inl, inr}
-use mathlib.Core.Bool.{Bool, true, false, not, _&&_, _||_}
-use mathlib.Core.List.{List, [], _∷_, _++_, map, append-assoc, append-nil}
-use Prim.Native.Nat.{ℕ, zero, suc, _+_, _≤_, _<_}
-use native.Mathlib.Nat.{zero-add, suc-add, add-zero, add-suc}
+use mathlib.Core.Path.{_≡_, refl, sym, ap, _∙_}
+use mathlib.Core.Logic.{_⊎_, inl, inr}
+use mathlib.Core.Bool.{Bool, true, false}
+use mathlib.Core.List.{List, [], _∷_, _++_, append-assoc, append-nil}
+use Prim.Native.Nat.{ℕ, suc, _+_, _≤_}
+use native.Mathlib.Nat.{add-zero}
 use native.Mathlib.Omega.{arith}
-use lib.ListN.{length, drop, length-drop, length-append}
+use lib.ListN.{length, drop, length-drop}
 use lib.Seq.{drop-drop}
-use lib.Dec.{eqb, ltb, leb, T}
-use lib.IntN.{ℤ, pos}
-use Rattle.itron.specs.Codes.{Err, Code, ok, waiting, error}
-use Rattle.model.proofs.Cases.{setWaits, setCount, setBuffer, release, join, waits-as}
-use Rattle.model.specs.Answers.{Released, Answer, Out, say, out, refuse, done}
-use Rattle.model.specs.Calls.{Kind, semaphore, queue, Op, signal, acquire, send, receive, refer, setVector, Call, no, infoOf, setVectorOf, step}
-use Rattle.model.specs.History.{Event, History, event, after, history, total, countIf}
-use Rattle.model.specs.Lists.{keep, consIf, only}
-use Rattle.model.specs.State.{Vector, Side, onSem, receiving, sending, Place, Waiter, State, place, samePlace, semAt, queueAt, waiter}
-use Rattle.model.specs.Waits.{Patience, polling, forever, standsAt, isOther, senders, receivers, waitersAt, freed}
+use lib.IntN.{ℤ}
+use Rattle.itron.specs.Codes.{ok, waiting, error}
+use Rattle.model.proofs.Cases.{setCount, setBuffer, release, join}
+use Rattle.model.specs.Answers.{Answer, Out, say}
+use Rattle.model.specs.Calls.{Kind, semaphore, queue, Call, no, infoOf, setVectorOf, step}
+use Rattle.model.specs.History.{event, after, history, total, countIf}
+use Rattle.model.specs.Lists.{consIf}
+use Rattle.model.specs.State.{Vector, onSem, receiving, sending, Place, Waiter, State, place, samePlace, semAt, queueAt, waiter}
+use Rattle.model.specs.Waits.{standsAt, waitersAt, freed}
 use Rattle.model.specs.Turns.{servesBy, serves, tasksOf, InTurn}
-use Rattle.model.proofs.Lists.{no-both, keep-append, Distinct}
-use Rattle.model.proofs.Cover.{Passed, Covers, call, cover}
+use Rattle.model.proofs.Lists.{keep-append, Distinct}
+use Rattle.model.proofs.Cover.{Covers, call, cover}
 use Rattle.model.proofs.Queues.{place-of, release-same, release-other}
 use Rattle.model.proofs.Steps.{distinct-law}
 

@@ -1,6 +1,6 @@
 -- Calls on an open gateway (document 01): the checks of every call, and one call. Definitions only.
 use mathlib.Core.Bool.{Bool, true, false, not, _&&_}
-use mathlib.Core.List.{List, []}
+use mathlib.Core.List.{[]}
 use mathlib.Core.Option.{Option, none, some}
 use Prim.Native.Nat.{ℕ, zero}
 use lib.ListN.{length}
@@ -14,7 +14,7 @@ use Rattle.itron.specs.Codes.{Err, eCtx, eId, eNoexs, eOacv, ok}
 use Rattle.itron.specs.Limits.{maxSemaphores, maxQueues}
 pub use Rattle.model.specs.declared.Kind.{Kind}
 pub use Rattle.model.specs.declared.Kind.the-variants.{Semaphore as semaphore, Queue as queue}
-use Rattle.model.specs.State.{Vector, Sem, Queue, Waiter, State, semAt, queueAt, domainAt}
+use Rattle.model.specs.State.{Vector, Sem, Queue, State, semAt, queueAt, domainAt}
 use Rattle.model.specs.Answers.{Info, Answer, Effect, Out, out, refuse, done, refuseIf}
 use Rattle.model.specs.Waits.{Patience, absent}
 use Rattle.model.specs.Semaphores as Semaphores

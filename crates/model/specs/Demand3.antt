@@ -1,18 +1,17 @@
 -- Demand 3 (document 01, "Pinning every answer down"): no reading is lost, doubled, swapped or smuggled in. One claim about the list of calls as a whole.
 use mathlib.Core.Path.{_≡_}
-use mathlib.Core.Bool.{Bool, true, false, _&&_}
+use mathlib.Core.Bool.{Bool, true, false, not, _&&_}
 use mathlib.Core.List.{List, [], _∷_, _++_, map}
 use Prim.Native.Nat.{ℕ, _+_}
 use lib.Dec.{eqb, T}
-use lib.IntN.{ℤ}
 use Rattle.access.specs.Patterns.{admitted}
 use Rattle.itron.specs.Codes.{Code, ok, waiting, error}
 use Rattle.model.specs.Lists.{All, keep, only}
 use Rattle.model.specs.State.{Side, onSem, receiving, sending, Place, Waiter, State, semAt, queueAt, domainAt, place}
 use Rattle.model.specs.Answers.{Released, Answer}
-use Rattle.model.specs.Waits.{senders, isOther}
+use Rattle.model.specs.Waits.{senders}
 use Rattle.model.specs.Calls.{semaphore, queue, Op, signal, acquire, send, receive, refer, setVector, Call, no}
-use Rattle.model.specs.History.{Event, History, after, history, words, total, Each, sent, handed, handedIn, joined, grants, signals, without, pending, vectorSince}
+use Rattle.model.specs.History.{Event, History, after, history, words, total, Each, sent, handed, handedIn, joined, grants, signals, pending, vectorSince}
 
 -- ---- admitted when it called: by the pattern for that kind of call in the vector that held after the history h
 -- a send is normal operation 1
@@ -90,7 +89,7 @@ sendBegun q t op waiting = sendIn q t op
 sendBegun q t op (error e) = []
 
 abbrev pub notTask : ℕ → Sender → Bool
-notTask t x = isOther t (record { task = x .task; place = place sending 0; word = 0 })
+notTask t x = not (eqb t (x .task))
 
 abbrev pub unreleased : List Released → List Sender → List Sender
 unreleased [] l = l

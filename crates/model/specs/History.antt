@@ -6,7 +6,7 @@ use lib.ListN.{length}
 use lib.Dec.{eqb}
 use Rattle.itron.specs.Codes.{Code, ok, waiting, error}
 use Rattle.model.specs.Lists.{keep, only}
-use Rattle.model.specs.State.{Vector, Side, onSem, receiving, sending, Waiter, State, waiter}
+use Rattle.model.specs.State.{Vector, onSem, receiving, sending, Waiter, State, waiter}
 use Rattle.model.specs.Answers.{Released, Answer}
 use Rattle.model.specs.Waits.{isOther}
 use Rattle.model.specs.Calls.{Kind, semaphore, queue, Op, signal, acquire, send, receive, refer, setVector, Call, no, vectorAt, step}

@@ -1,14 +1,13 @@
 -- Data queues: their entries and what each call on one does (document 01). Definitions only.
-use mathlib.Core.Bool.{Bool, true, false, _&&_}
+use mathlib.Core.Bool.{Bool, true, false}
 use mathlib.Core.List.{List, [], _∷_, _++_}
-use Prim.Native.Nat.{ℕ, zero, suc, _+_}
+use Prim.Native.Nat.{ℕ, _+_}
 use lib.Dec.{eqb, leb, ltb}
 use lib.ListN.{length}
-use Rattle.itron.specs.Codes.{ok}
 use Rattle.itron.specs.Limits.{maxCapacity, maxWords}
 use Rattle.model.specs.Lists.{at, put}
 use Rattle.model.specs.State.{Vector, Queue, Waiter, receiving, sending, place, waiter, noQueue}
-use Rattle.model.specs.Answers.{Effect, effect, say, Info}
+use Rattle.model.specs.Answers.{Effect, Info}
 use Rattle.model.specs.Waits.{Patience, waitersIn, firstTask, wakes, orWaits, gives}
 
 -- ---- the entry

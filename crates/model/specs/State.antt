@@ -1,7 +1,7 @@
 -- What the core holds (document 01, "What the core holds"). Definitions only.
 use mathlib.Core.Bool.{Bool, true, false, _&&_}
 use mathlib.Core.List.{List, []}
-use Prim.Native.Nat.{ℕ, zero, suc}
+use Prim.Native.Nat.{ℕ, zero}
 use lib.Dec.{eqb}
 use lib.IntN.{ℤ, pos}
 pub use Rattle.access.specs.declared.vector.Vector.{Vector}

@@ -1,6 +1,5 @@
 -- Taking turns (document 01): a task that waits with k tasks ahead is released by the (k+1)th accepted call of the opposite kind on its object after it joined.
 use mathlib.Core.Path.{_≡_}
-use mathlib.Core.Bool.{Bool}
 use mathlib.Core.List.{List, [], _∷_, _++_, map}
 use Prim.Native.Nat.{ℕ, _≤_}
 use lib.ListN.{length, drop}

@@ -1,11 +1,11 @@
 -- The waiting tasks (document 01, "Calls on an open gateway"). Definitions only.
-use mathlib.Core.Bool.{Bool, true, false, not, _&&_}
+use mathlib.Core.Bool.{Bool, true, not, _&&_}
 use mathlib.Core.List.{List, [], _∷_, _++_}
-use Prim.Native.Nat.{ℕ, zero, suc}
+use Prim.Native.Nat.{ℕ}
 use lib.Dec.{eqb}
 use Rattle.model.specs.Lists.{keep}
 use Rattle.model.specs.State.{Place, Waiter, State, samePlace, place, receiving, sending}
-use Rattle.model.specs.Answers.{Released, Answer, Effect, effect, say, refuseIf}
+use Rattle.model.specs.Answers.{Released, Effect, effect, say}
 use Rattle.itron.specs.Codes.{Err, eTmout, ok, waiting, error}
 pub use Rattle.model.specs.declared.Patience.{Patience}
 pub use Rattle.model.specs.declared.Patience.the-variants.{Polling as polling, Forever as forever}

@@ -4,11 +4,9 @@ use kernel::state::State;
 use session::Session;
 
 mod dump;
-mod names;
 mod output;
 mod perform;
 mod session;
-mod show;
 
 // A proved loop has to end, and nothing says that the input does. So the loop counts its turns down, from a number that
 // no run uses up.

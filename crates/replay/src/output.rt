@@ -1,7 +1,6 @@
-// The block of output: its bytes go out when it is full or when the program is about to read on.
+// The block of output goes out when it has no room for another line, and when the program is about to read on.
 use libc::STDOUT_FILENO;
-
-pub const SIZE: usize = 4096;
+use report::output::LONGEST_LINE;
 
 // Writes the first `at` bytes of the block.
 pub fn flush(out: &[u8], at: usize) {
@@ -10,44 +9,11 @@ pub fn flush(out: &[u8], at: usize) {
     }
 }
 
-// Each of these puts something behind the `at` bytes of the block, and answers how many there are then.
-pub fn put_byte(out: &mut [u8; 4096], at: usize, byte: u8) -> usize {
-    if at < SIZE {
-        out[at] = byte;
-        return at + 1;
+// Makes room for another line, and answers how many bytes the block has then.
+pub fn with_room(out: &[u8], at: usize) -> usize {
+    if at < LONGEST_LINE {
+        return at;
     }
     flush(out, at);
-    out[0] = byte;
-    1
-}
-
-pub fn put(out: &mut [u8; 4096], at: usize, text: &[u8]) -> usize {
-    let mut end = at;
-    let mut i = 0;
-    while i < text.len() {
-        end = put_byte(out, end, text[i]);
-        i += 1;
-    }
-    end
-}
-
-pub fn put_number(out: &mut [u8; 4096], at: usize, number: u64) -> usize {
-    let mut digits = [0u8; 20];
-    let count = io::decimal(number, &mut digits);
-    put(out, at, &digits[..count])
-}
-
-// A text and a number after it, as `count=3`.
-pub fn put_named(out: &mut [u8; 4096], at: usize, name: &[u8], number: u64) -> usize {
-    let end = put(out, at, name);
-    put_number(out, end, number)
-}
-
-pub fn put_signed(out: &mut [u8; 4096], at: usize, number: i32) -> usize {
-    let wide = number as i64;
-    if wide < 0 {
-        let end = put_byte(out, at, b'-');
-        return put_number(out, end, (0 - wide) as u64);
-    }
-    put_number(out, at, wide as u64)
+    0
 }

@@ -1,13 +1,6 @@
 // A command is made on the kernel and its answer put: the one place where the kernel is called.
 ghost use Rattle.kernel.specs.Valid.{Valid};
 use crate::dump::put_state;
-use crate::names::put_code;
-use crate::output::put;
-use crate::output::put_byte;
-use crate::show::put_answer;
-use crate::show::put_audit;
-use crate::show::put_queue_report;
-use crate::show::put_semaphore_report;
 use access::audit::audit;
 use command::parse::Command;
 use command::parse::Entry;
@@ -18,9 +11,15 @@ use kernel::state::Answer;
 use kernel::state::Entered;
 use kernel::state::State;
 use regions::entry::RegionEntry;
+use report::names::put_code;
+use report::object::LF;
+use report::output::put;
+use report::output::put_byte;
+use report::show::put_answer;
+use report::show::put_audit;
+use report::show::put_queue_report;
+use report::show::put_semaphore_report;
 use semaphore::entry::SemaphoreEntry;
-
-const LF: u8 = 10;
 
 // The state after a command, and how many bytes the block of output has then.
 pub struct Made {

@@ -2,7 +2,7 @@
 ghost use Prim.Native.Nat.{_≤_};
 ghost use Rattle.kernel.specs.Valid.{Valid};
 use crate::output::flush;
-use crate::output::put;
+use crate::output::with_room;
 use crate::perform::Made;
 use crate::perform::perform;
 use command::line::Line;
@@ -11,6 +11,7 @@ use command::request::requested;
 use command::text::Text;
 use kernel::state::State;
 use libc::STDIN_FILENO;
+use report::output::put;
 
 pub struct Session {
     // The table and its tasks.
@@ -46,6 +47,7 @@ fn obey(out: &mut [u8; 4096], at: usize, state: State, line: Line, ended: bool) 
     if let Command::Blank = command {
         return Made { at, state };
     }
+    let at = with_room(out, at);
     let at = put_echo(out, at, echo);
     perform(out, at, state, command)
 }

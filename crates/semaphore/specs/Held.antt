@@ -1,5 +1,5 @@
 -- What every function on the semaphores asks of them and keeps. Definitions only.
-use Prim.Native.Nat.{ℕ, _≤_}
+use Prim.Native.Nat.{_≤_}
 use mathlib.Core.Path.{_≡_}
 use Rattle.itron.specs.Limits.{maxSemaphores}
 use Rattle.semaphore.specs.declared.state.Semaphores.{Semaphores}

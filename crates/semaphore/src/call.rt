@@ -1,7 +1,7 @@
 // What the calls on a semaphore do, once their checks are passed (document 01, "Calls on an open gateway").
 ghost use mathlib.Core.Path.{_≡_};
 ghost use mathlib.Core.List.{[]};
-ghost use Prim.Native.Nat.{ℕ, suc, _<_};
+ghost use Prim.Native.Nat.{suc, _<_};
 ghost use lib.Dec.{leb};
 ghost use lib.ListN.{length};
 ghost use Rattle.model.specs.Semaphores as Model;
@@ -18,11 +18,9 @@ use itron::code::E_OK;
 use itron::code::E_QOVR;
 use model::Patience;
 use model::Reply;
-use model::Semaphore;
 use model::Side;
 use tasks::state::Tasks;
 use tasks::task::Wait;
-use tasks::wait::Ended;
 use tasks::wait::First;
 
 // The reply, and the tasks and the semaphores after the call.

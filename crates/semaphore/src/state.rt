@@ -1,7 +1,7 @@
 // All semaphores.
 ghost use mathlib.Core.Path.{_≡_};
 ghost use mathlib.Core.List.{[], _∷_, _++_};
-ghost use Prim.Native.Nat.{ℕ, suc, _<_};
+ghost use Prim.Native.Nat.{suc, _<_};
 ghost use lib.ListN.{length};
 ghost use Rattle.itron.specs.Limits.{maxSemaphores};
 ghost use Rattle.model.specs.Lists.{put};

@@ -19,6 +19,9 @@ loop-holds c = search needs
 add-k : tie.Need-add-k Inv-loop μ-loop
 add-k c = search needs
 
+with-room-requires : tie.Need-with-room-requires Inv-loop μ-loop
+with-room-requires c κs = search needs
+
 put-object-requires : tie.Need-put-object-requires Inv-loop μ-loop
 put-object-requires c κs = search needs
 
@@ -40,6 +43,7 @@ put-objects-spec =
     count-of-requires
     loop-holds
     add-k
+    with-room-requires
     put-object-requires
     loop-less
     loop-again

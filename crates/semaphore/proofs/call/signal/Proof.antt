@@ -1,5 +1,5 @@
 use borrow.Author.Needs.{needs}
-use mathlib.Core.Path.{_≡_, sym, ap, _∙_}
+use mathlib.Core.Path.{sym, _∙_}
 use Rattle.model.specs.State.{place}
 use Rattle.model.specs.declared.Side.the-variants.{OnSem as onSem}
 use Rattle.tasks.proofs.Firsts.{Waits, waits, no-first}
@@ -9,42 +9,30 @@ use Rattle.model.specs.Waits.{waitersIn}
 use Rattle.tasks.specs.View.{waitsOf}
 use Rattle.semaphore.proofs.call.signal.Statement.{statement}
 use Rattle.semaphore.proofs.call.signal.Tie as tie
-use Rattle.semaphore.proofs.call.signal.Reads as reads
-use Rattle.semaphore.proofs.call.signal.Lts as lts
-use Rattle.semaphore.proofs.state.Semaphores.raise.Reads as raise-reads
-use Rattle.tasks.proofs.state.Tasks.first.Reads as first-reads
-use Rattle.tasks.proofs.state.Tasks.wake.Reads as wake-reads
 
--- src/call.rt:75:11
 first-requires : tie.Need-first-requires
 first-requires c κs = search needs
 
 first-at : (c : tie.After-task) → Waits (c .before .before .before .args .tasks) (place onSem (suc (c .before .before .before .args .object))) (c .task .given .0 .0) (c .task .given .0 .1 .0)
 first-at c = let b = c .before .before .before in waits (b .pre .0) (place onSem (suc (b .args .object))) _ _ (sym (c .before .before .first .ensures) ∙ c .task .given .1)
 
--- src/call.rt:76:23
 enum-known-task : tie.Need-enum-known-task
 enum-known-task c = search needs
 
--- src/call.rt:77:17
 wake-requires : tie.Need-wake-requires
 wake-requires c κs = (c .before .before .before .before .pre .0, first-at (c .before) .low)
 
--- src/call.rt:87:17
 enum-told : tie.Need-enum-told
 enum-told c = search needs
 
--- src/call.rt:87:17
 raise-requires : tie.Need-raise-requires
 raise-requires c κs = search needs
 
--- src/call.rt:71:1
 returns : tie.Need-returns
 returns c =
     let b = c .before .before .before .before .before .before .before in
     signal-wakes (b .pre .0) (b .pre .1) (b .args .object) _ _ (first-at (c .before .before .before .before)) _ (c .before .before .wake .ensures)
 
--- src/call.rt:71:1
 returns-2 : tie.Need-returns-2
 returns-2 c =
     let b = c .before .before .before .before .before .before in

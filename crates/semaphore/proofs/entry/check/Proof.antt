@@ -1,19 +1,14 @@
-use lib.Dec.{leb, eqb}
-use mathlib.Core.Path.{_≡_, refl, sym}
-use mathlib.Core.Bool.{true, false}
+use lib.Dec.{leb}
+use mathlib.Core.Path.{sym}
 use borrow.Author.Tests.{lt-leb, le-leb, ne-eqb, eq-eqb}
 use Rattle.itron.specs.Limits.{maxCount}
 use Rattle.semaphore.proofs.Entries.{byTests}
 use Rattle.semaphore.proofs.entry.check.Statement.{statement}
 use Rattle.semaphore.proofs.entry.check.Tie as tie
-use Rattle.semaphore.proofs.entry.check.Reads as reads
-use Rattle.semaphore.proofs.entry.check.Lts as lts
 
--- src/entry.rt:24:9
 returns : tie.Need-returns
 returns c = let a = c .before .args in let e = sym (ne-eqb (a .attribute) 0 (c .if1 .taken)) in λ i. byTests (e i) (leb 1 (a .max)) (leb (a .max) maxCount) (leb (a .start) (a .max))
 
--- src/entry.rt:27:9
 returns-2 : tie.Need-returns-2
 returns-2 c =
     let a = c .before .before .args in
@@ -21,7 +16,6 @@ returns-2 c =
     let f = sym (lt-leb 1 (a .max) (c .if2 .taken)) in
     λ i. byTests (e i) (f i) (leb (a .max) maxCount) (leb (a .start) (a .max))
 
--- src/entry.rt:30:9
 returns-3 : tie.Need-returns-3
 returns-3 c =
     let a = c .before .before .before .args in
@@ -30,7 +24,6 @@ returns-3 c =
     let g = sym (lt-leb (a .max) maxCount (c .if3 .taken)) in
     λ i. byTests (e i) (f i) (g i) (leb (a .start) (a .max))
 
--- src/entry.rt:33:9
 returns-4 : tie.Need-returns-4
 returns-4 c =
     let a = c .before .before .before .before .args in
@@ -40,7 +33,6 @@ returns-4 c =
     let h = sym (lt-leb (a .start) (a .max) (c .if4 .taken)) in
     λ i. byTests (e i) (f i) (g i) (h i)
 
--- src/entry.rt:20:1
 returns-5 : tie.Need-returns-5
 returns-5 c =
     let a = c .before .before .before .before .args in

@@ -1,6 +1,6 @@
 use borrow.Author.Needs.{needs}
 use Prim.Native.Nat.{ℕ, suc}
-use mathlib.Core.Path.{_≡_, refl, sym, ap, _∙_}
+use mathlib.Core.Path.{_≡_, sym, ap, _∙_}
 use lib.IntN.{ℤ}
 use mir.Syntax.{w32}
 use mir.Val.{toZ, ofZ}
@@ -14,14 +14,7 @@ use Rattle.kernel.proofs.Back.{tasks-held, sems-held, promise}
 use Rattle.kernel.proofs.Calls.{checkOf, refused, Admission, admission, on-semaphores}
 use Rattle.kernel.proofs.state.State.acquire.Statement.{statement}
 use Rattle.kernel.proofs.state.State.acquire.Tie as tie
-use Rattle.kernel.proofs.state.State.acquire.Reads as reads
-use Rattle.kernel.proofs.state.State.acquire.Lts as lts
-use Rattle.kernel.proofs.state.State.check.Reads as check-reads
-use Rattle.kernel.proofs.state.State.refuse.Reads as refuse-reads
-use Rattle.kernel.proofs.state.State.with_semaphores.Reads as with-semaphores-reads
-use Rattle.semaphore.proofs.call.acquire.Reads as acquire-reads
 
--- src/sem.rt:54:15
 check-requires : tie.Need-check-requires
 check-requires c κs = search needs
 
@@ -29,33 +22,27 @@ check-requires c κs = search needs
 checks : (c : tie.After-check) → let a = c .before .args in checkOf (a .self) (a .caller) (Model.acquire (a .patience) (a .id)) ≡ c .check .result
 checks c = sym (rw (toZ-ofZ (c .before .fits .caller), toZ-ofZ (c .before .fits .id)) at (c .check .ensures))
 
--- src/sem.rt:55:28
 enum-known-code : tie.Need-enum-known-code
 enum-known-code c = search needs
 
--- src/sem.rt:55:37
 refuse-requires : tie.Need-refuse-requires
 refuse-requires c κs = search needs
 
 admits : (c : tie.After-task) → let a = c .before .before .before .args in Admission (a .self) (a .caller) (Model.acquire (a .patience) (a .id)) (c .task .given .0 .0) (c .task .given .0 .1 .0)
 admits c = let a = c .before .before .before .args in admission (a .self) (a .caller) (Model.acquire (a .patience) (a .id)) _ _ (checks (c .before .before) ∙ c .task .given .1)
 
--- src/sem.rt:56:29
 enum-known-task : tie.Need-enum-known-task
 enum-known-task c = search needs
 
--- src/sem.rt:59:38
 acquire-requires : tie.Need-acquire-requires
 acquire-requires c κs =
     let v = c .before .before .before .before .before .before .pre in
     let x = admits (c .before .before .before) in
     (tasks-held v, sems-held v, x .free, x .there)
 
--- src/sem.rt:59:17
 with-semaphores-requires : tie.Need-with-semaphores-requires
 with-semaphores-requires c κs = search needs
 
--- src/sem.rt:50:5
 returns : tie.Need-returns
 returns c =
     let p = c .before .before in
@@ -65,7 +52,6 @@ returns c =
     let e : toZ w32 (ofZ w32 d) ≡ d = search needs in
     promise (b .pre) _ (c .refuse .ensures ∙ ap (λ (z : ℤ). answered (plain z 0) (a .self)) e ∙ refused (b .pre) (a .caller) (Model.acquire (a .patience) (a .id)) d (checks (p .before .before) ∙ p .code .given .1))
 
--- src/sem.rt:50:5
 returns-2 : tie.Need-returns-2
 returns-2 c =
     let p = c .before .before .before .before .before in

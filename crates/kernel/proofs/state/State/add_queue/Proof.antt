@@ -1,17 +1,12 @@
 use borrow.Author.Needs.{needs}
-use mathlib.Core.Path.{_≡_, refl, sym, ap, _∙_}
+use mathlib.Core.Path.{_≡_, sym, ap, _∙_}
 use mir.Syntax.{w32}
 use mir.Val.{toZ, ofZ}
-use mir.Facts.{toZ-ofZ}
-use Prim.Native.Nat.{ℕ}
-use mathlib.Core.List.{List, [], _∷_, _++_}
+use mathlib.Core.List.{[], _∷_, _++_}
 use mathlib.Core.Option.{none}
 use lib.IntN.{ℤ}
-use Rattle.itron.specs.Codes.{okNumber}
-use Rattle.model.specs.Answers.{resultOf}
 use Rattle.model.specs.Table as Table
 use Rattle.model.specs.Table.{checkEntry}
-use Rattle.model.specs.State as Model
 use Rattle.dataqueue.specs.Form.{queuesAs}
 use Rattle.kernel.specs.View.{viewOf}
 use Rattle.kernel.specs.Answers.{entered}
@@ -19,22 +14,13 @@ use Rattle.kernel.proofs.Back.{queues-held, enters-entry}
 use Rattle.kernel.proofs.Building.{passed-none, entry-refused, queue-taken, queue-room}
 use Rattle.kernel.proofs.state.State.add_queue.Statement.{statement}
 use Rattle.kernel.proofs.state.State.add_queue.Tie as tie
-use Rattle.kernel.proofs.state.State.add_queue.Reads as reads
-use Rattle.kernel.proofs.state.State.add_queue.Lts as lts
-use Rattle.access.proofs.vector.Choice.resolve.Reads as resolve-reads
-use Rattle.dataqueue.proofs.state.Queues.add.Reads as add-reads
-use Rattle.kernel.proofs.state.State.check_queue.Reads as check-queue-reads
-use Rattle.kernel.proofs.state.State.enter.Reads as enter-reads
 
--- src/table.rt:184:13
 check-queue-requires : tie.Need-check-queue-requires
 check-queue-requires c κs = search needs
 
--- src/table.rt:186:13
 enter-requires : tie.Need-enter-requires
 enter-requires c κs = search needs
 
--- src/table.rt:186:13
 returns : tie.Need-returns
 returns c =
     let p = c .before .before in
@@ -52,14 +38,12 @@ passes c =
     let e : toZ w32 (ofZ w32 z) ≡ z = search needs in
     passed-none (checkEntry (viewOf (a .self)) (Table.queue (a .given .domain) (a .given .attribute) (a .given .capacity) (a .given .vector))) z (p .check-queue .ensures) (sym e ∙ ap (toZ w32) (c .if1 .left))
 
--- src/table.rt:189:13
 resolve-requires : tie.Need-resolve-requires
 resolve-requires c κs = search needs
 
 sign : (c : tie.After-struct-told) → let d = c .before .before .before .args .given .domain in toZ w32 (ofZ w32 d) ≡ d
 sign c = search needs
 
--- src/table.rt:191:9
 add-requires : tie.Need-add-requires
 add-requires c κs =
     let b = c .before .before .before .before .before .before in
@@ -67,11 +51,9 @@ add-requires c κs =
     let r = queue-room (viewOf (a .self)) (a .given .domain) (a .given .attribute) (a .given .capacity) (a .given .vector) (passes (c .before .before .before .before)) in
     (queues-held (b .pre), r .0, r .1)
 
--- src/table.rt:192:9
 enter-requires-2 : tie.Need-enter-requires-2
 enter-requires-2 c κs = search needs
 
--- src/table.rt:180:5
 returns-2 : tie.Need-returns-2
 returns-2 c =
     let q = c .before .before .before .before .before in

@@ -1,17 +1,12 @@
 use borrow.Author.Needs.{needs}
-use mathlib.Core.Path.{_≡_, refl, sym, ap, _∙_}
+use mathlib.Core.Path.{_≡_, sym, ap, _∙_}
 use mir.Syntax.{w32}
 use mir.Val.{toZ, ofZ}
-use mir.Facts.{toZ-ofZ}
-use Prim.Native.Nat.{ℕ}
-use mathlib.Core.List.{List, [], _∷_, _++_}
+use mathlib.Core.List.{[], _∷_, _++_}
 use mathlib.Core.Option.{none}
 use lib.IntN.{ℤ}
-use Rattle.itron.specs.Codes.{okNumber}
-use Rattle.model.specs.Answers.{resultOf}
 use Rattle.model.specs.Table as Table
 use Rattle.model.specs.Table.{checkEntry}
-use Rattle.model.specs.State as Model
 use Rattle.regions.specs.Form.{regionsAs}
 use Rattle.kernel.specs.View.{viewOf}
 use Rattle.kernel.specs.Answers.{entered}
@@ -19,22 +14,13 @@ use Rattle.kernel.proofs.Back.{regions-held, enters-entry}
 use Rattle.kernel.proofs.Building.{passed-none, entry-refused, region-taken, region-room}
 use Rattle.kernel.proofs.state.State.add_region.Statement.{statement}
 use Rattle.kernel.proofs.state.State.add_region.Tie as tie
-use Rattle.kernel.proofs.state.State.add_region.Reads as reads
-use Rattle.kernel.proofs.state.State.add_region.Lts as lts
-use Rattle.access.proofs.vector.Choice.resolve.Reads as resolve-reads
-use Rattle.kernel.proofs.state.State.check_region.Reads as check-region-reads
-use Rattle.kernel.proofs.state.State.enter.Reads as enter-reads
-use Rattle.regions.proofs.state.Regions.add.Reads as add-reads
 
--- src/table.rt:199:13
 check-region-requires : tie.Need-check-region-requires
 check-region-requires c κs = search needs
 
--- src/table.rt:201:13
 enter-requires : tie.Need-enter-requires
 enter-requires c κs = search needs
 
--- src/table.rt:201:13
 returns : tie.Need-returns
 returns c =
     let p = c .before .before in
@@ -52,25 +38,21 @@ passes c =
     let e : toZ w32 (ofZ w32 z) ≡ z = search needs in
     passed-none (checkEntry (viewOf (a .self)) (Table.region (a .given .domain) (a .given .attribute) (a .given .base) (a .given .size) (a .given .vector))) z (p .check-region .ensures) (sym e ∙ ap (toZ w32) (c .if1 .left))
 
--- src/table.rt:204:13
 resolve-requires : tie.Need-resolve-requires
 resolve-requires c κs = search needs
 
 sign : (c : tie.After-struct-told) → let d = c .before .before .before .args .given .domain in toZ w32 (ofZ w32 d) ≡ d
 sign c = search needs
 
--- src/table.rt:206:9
 add-requires : tie.Need-add-requires
 add-requires c κs =
     let b = c .before .before .before .before .before .before in
     let a = b .args in
     (regions-held (b .pre), region-room (viewOf (a .self)) (a .given .domain) (a .given .attribute) (a .given .base) (a .given .size) (a .given .vector) (passes (c .before .before .before .before)))
 
--- src/table.rt:207:9
 enter-requires-2 : tie.Need-enter-requires-2
 enter-requires-2 c κs = search needs
 
--- src/table.rt:195:5
 returns-2 : tie.Need-returns-2
 returns-2 c =
     let q = c .before .before .before .before .before in

@@ -1,42 +1,26 @@
 use borrow.Author.Needs.{needs}
-use mathlib.Core.Path.{_≡_, refl, sym, ap, _∙_}
+use mathlib.Core.Path.{_≡_, sym, ap, _∙_}
 use mir.Syntax.{w32}
 use mir.Val.{toZ, ofZ}
-use mir.Facts.{toZ-ofZ}
-use Prim.Native.Nat.{ℕ}
-use mathlib.Core.List.{List, [], _∷_, _++_}
+use mathlib.Core.List.{[], _∷_, _++_}
 use mathlib.Core.Option.{none}
 use lib.IntN.{ℤ}
-use Rattle.itron.specs.Codes.{okNumber}
-use Rattle.model.specs.Answers.{resultOf}
 use Rattle.model.specs.Table as Table
 use Rattle.model.specs.Table.{checkEntry}
-use Rattle.access.specs.declared.vector.Vector.{Vector}
-use Rattle.model.specs.declared.Semaphore.{Semaphore}
 use Rattle.semaphore.specs.Form.{semsAs}
-use Rattle.kernel.specs.declared.state.State.{State}
 use Rattle.kernel.specs.View.{viewOf}
 use Rattle.kernel.specs.Answers.{entered}
 use Rattle.kernel.proofs.Back.{sems-held, enters-entry}
 use Rattle.kernel.proofs.Building.{passed-none, entry-refused, sem-taken, sem-room}
 use Rattle.kernel.proofs.state.State.add_semaphore.Statement.{statement}
 use Rattle.kernel.proofs.state.State.add_semaphore.Tie as tie
-use Rattle.kernel.proofs.state.State.add_semaphore.Reads as reads
-use Rattle.kernel.proofs.state.State.add_semaphore.Lts as lts
-use Rattle.access.proofs.vector.Choice.resolve.Reads as resolve-reads
-use Rattle.kernel.proofs.state.State.check_semaphore.Reads as check-semaphore-reads
-use Rattle.kernel.proofs.state.State.enter.Reads as enter-reads
-use Rattle.semaphore.proofs.state.Semaphores.add.Reads as add-reads
 
--- src/table.rt:163:13
 check-semaphore-requires : tie.Need-check-semaphore-requires
 check-semaphore-requires c κs = search needs
 
--- src/table.rt:165:13
 enter-requires : tie.Need-enter-requires
 enter-requires c κs = search needs
 
--- src/table.rt:165:13
 returns : tie.Need-returns
 returns c =
     let p = c .before .before in
@@ -54,25 +38,21 @@ passes c =
     let e : toZ w32 (ofZ w32 z) ≡ z = search needs in
     passed-none (checkEntry (viewOf (a .self)) (Table.sem (a .given .domain) (a .given .attribute) (a .given .start) (a .given .max) (a .given .vector))) z (p .check-semaphore .ensures) (sym e ∙ ap (toZ w32) (c .if1 .left))
 
--- src/table.rt:168:13
 resolve-requires : tie.Need-resolve-requires
 resolve-requires c κs = search needs
 
 sign : (c : tie.After-struct-told) → let d = c .before .before .before .args .given .domain in toZ w32 (ofZ w32 d) ≡ d
 sign c = search needs
 
--- src/table.rt:170:9
 add-requires : tie.Need-add-requires
 add-requires c κs =
     let b = c .before .before .before .before .before .before in
     let a = b .args in
     (sems-held (b .pre), sem-room (viewOf (a .self)) (a .given .domain) (a .given .attribute) (a .given .start) (a .given .max) (a .given .vector) (passes (c .before .before .before .before)))
 
--- src/table.rt:177:9
 enter-requires-2 : tie.Need-enter-requires-2
 enter-requires-2 c κs = search needs
 
--- src/table.rt:159:5
 returns-2 : tie.Need-returns-2
 returns-2 c =
     let q = c .before .before .before .before .before in

@@ -1,38 +1,25 @@
 use borrow.Author.Needs.{needs}
-use mathlib.Core.Path.{_≡_, refl, sym, ap, _∙_}
+use mathlib.Core.Path.{_≡_, sym, ap, _∙_}
 use mir.Syntax.{w32}
 use mir.Val.{toZ, ofZ}
 use mir.Facts.{toZ-ofZ}
-use Prim.Native.Nat.{ℕ}
-use mathlib.Core.List.{List, [], _∷_, _++_}
 use mathlib.Core.Option.{none}
 use lib.IntN.{ℤ}
-use Rattle.itron.specs.Codes.{okNumber}
-use Rattle.model.specs.Answers.{resultOf}
 use Rattle.model.specs.Table as Table
 use Rattle.model.specs.Table.{checkEntry}
-use Rattle.tasks.specs.Form.{tasksAs}
 use Rattle.kernel.specs.View.{viewOf}
 use Rattle.kernel.specs.Answers.{entered}
 use Rattle.kernel.proofs.Back.{tasks-held, enters-entry}
 use Rattle.kernel.proofs.Building.{passed-none, entry-refused, task-taken, task-room}
 use Rattle.kernel.proofs.state.State.add_task.Statement.{statement}
 use Rattle.kernel.proofs.state.State.add_task.Tie as tie
-use Rattle.kernel.proofs.state.State.add_task.Reads as reads
-use Rattle.kernel.proofs.state.State.add_task.Lts as lts
-use Rattle.kernel.proofs.state.State.check_task.Reads as check-task-reads
-use Rattle.kernel.proofs.state.State.enter.Reads as enter-reads
-use Rattle.tasks.proofs.state.Tasks.add.Reads as add-reads
 
--- src/table.rt:150:13
 check-task-requires : tie.Need-check-task-requires
 check-task-requires c κs = search needs
 
--- src/table.rt:152:13
 enter-requires : tie.Need-enter-requires
 enter-requires c κs = search needs
 
--- src/table.rt:152:13
 returns : tie.Need-returns
 returns c =
     let p = c .before .before in
@@ -51,7 +38,6 @@ passes c =
     let e : toZ w32 (ofZ w32 z) ≡ z = search needs in
     passed-none (checkEntry (viewOf (a .self)) (Table.task (a .domain))) z (rw (toZ-ofZ (b .fits .domain)) at (p .check-task .ensures)) (sym e ∙ ap (toZ w32) (c .if1 .left))
 
--- src/table.rt:155:9
 add-requires : tie.Need-add-requires
 add-requires c κs =
     let b = c .before .before .before in
@@ -59,11 +45,9 @@ add-requires c κs =
     let r = task-room (viewOf (a .self)) (a .domain) (passes (c .before)) in
     (tasks-held (b .pre), r .0, b .pre .sound .quiet (r .1))
 
--- src/table.rt:156:9
 enter-requires-2 : tie.Need-enter-requires-2
 enter-requires-2 c κs = search needs
 
--- src/table.rt:146:5
 returns-2 : tie.Need-returns-2
 returns-2 c =
     let q = c .before .before .before in

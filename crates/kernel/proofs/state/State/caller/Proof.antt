@@ -1,7 +1,5 @@
-use mathlib.Core.Path.{_≡_, refl, sym, ap, _∙_}
+use mathlib.Core.Path.{sym, ap, _∙_}
 use borrow.Author.Tests.{not-true, not-false}
-use mir.Syntax.{w32}
-use mir.Val.{toZ, ofZ}
 use mir.Facts.{toZ-ofZ}
 use mathlib.Core.Bool.{Bool, _&&_}
 use Rattle.access.specs.Patterns.{pick}
@@ -13,19 +11,13 @@ use Rattle.kernel.specs.View.{viewOf}
 use Rattle.kernel.proofs.Back.{tasks-held}
 use Rattle.kernel.proofs.state.State.caller.Statement.{statement}
 use Rattle.kernel.proofs.state.State.caller.Tie as tie
-use Rattle.kernel.proofs.state.State.caller.Reads as reads
-use Rattle.kernel.proofs.state.State.caller.Lts as lts
-use Rattle.tasks.proofs.state.Tasks.caller.Reads as caller-reads
 
--- src/check.rt:46:13
 returns : tie.Need-returns
 returns c = let h = not-true (c .before .before .args .self .closed) (c .if1 .taken) in rw h
 
--- src/check.rt:49:9
 caller-requires : tie.Need-caller-requires
 caller-requires c κs = tasks-held (c .before .before .before .pre)
 
--- src/check.rt:41:5
 returns-2 : tie.Need-returns-2
 returns-2 c =
     let b = c .before .before .before .before in

@@ -1,5 +1,5 @@
 use borrow.Author.Needs.{needs}
-use Prim.Native.Nat.{suc, _-_, _<_, _≤_}
+use Prim.Native.Nat.{_-_, _<_, _≤_}
 use native.Mathlib.Omega.{arith}
 use mathlib.Core.Path.{_≡_, sym, ap, _∙_}
 use mir.Syntax.{w32}
@@ -18,40 +18,25 @@ use Rattle.kernel.specs.Answers.{callerIn}
 use Rattle.kernel.proofs.Checks.{nobody, check-ctx, check-id, check-noexs, check-oacv, check-admits}
 use Rattle.kernel.proofs.state.State.check.Statement.{statement}
 use Rattle.kernel.proofs.state.State.check.Tie as tie
-use Rattle.kernel.proofs.state.State.check.Reads as reads
-use Rattle.kernel.proofs.state.State.check.Lts as lts
-use Rattle.access.proofs.domain.ordinal.Reads as ordinal-reads
-use Rattle.access.proofs.pattern.admits.Reads as admits-reads
-use Rattle.access.proofs.vector.Vector.pattern.Reads as pattern-reads
-use Rattle.kernel.proofs.check.most.Reads as most-reads
-use Rattle.kernel.proofs.state.State.caller.Reads as caller-reads
-use Rattle.kernel.proofs.state.State.registered.Reads as registered-reads
-use Rattle.kernel.proofs.state.State.vector.Reads as vector-reads
 
--- src/check.rt:90:43
 caller-requires : tie.Need-caller-requires
 caller-requires c κs = search needs
 
--- src/check.rt:90:27
 enum-known-task : tie.Need-enum-known-task
 enum-known-task c = search needs
 
--- src/check.rt:91:13
 enum-told : tie.Need-enum-told
 enum-told c = search needs
 
--- src/check.rt:91:13
 returns : tie.Need-returns
 returns c =
     let p = c .before .before in
     let a = p .before .args in
     check-ctx (viewOf (a .self)) (no (a .caller)) (a .operation) (no (a .id)) (a .kind) (sym (rw (toZ-ofZ (p .before .fits .caller)) at (p .caller .ensures)) ∙ nobody (p .caller .result) (c .before .match .keys2))
 
--- src/check.rt:93:34
 most-requires : tie.Need-most-requires
 most-requires c κs = search needs
 
--- src/check.rt:93:13
 ordinal-requires : tie.Need-ordinal-requires
 ordinal-requires c κs = search needs
 
@@ -65,7 +50,6 @@ object c =
 who : (c : tie.After-task) → let b = c .before .before .before in callerIn (viewOf (b .args .self)) (no (b .args .caller)) ≡ Caller.Ready (c .task .given .0 .0) (c .task .given .0 .1 .0)
 who c = let p = c .before .before in sym (rw (toZ-ofZ (p .before .fits .caller)) at (p .caller .ensures)) ∙ c .task .given .1
 
--- src/check.rt:95:13
 returns-2 : tie.Need-returns-2
 returns-2 c =
     let p = c .before in
@@ -75,11 +59,9 @@ returns-2 c =
 number : (c : tie.Else1) → let b = c .before .before .before .before .before .before .before in Within (b .args .id) (Model.most (b .args .kind)) (c .before .ordinal .result)
 number c = let b = c .before .before .before .before .before .before .before in within (b .args .id) (Model.most (b .args .kind)) (c .before .ordinal .result) (object (c .before)) (c .if1 .left)
 
--- src/check.rt:97:12
 registered-requires : tie.Need-registered-requires
 registered-requires c κs = search needs
 
--- src/check.rt:98:13
 returns-3 : tie.Need-returns-3
 returns-3 c =
     let q = c .before .before in
@@ -94,11 +76,9 @@ returns-3 c =
 low : (c : tie.Else2) → let b = c .before .before .before .before .before .before .before .before .before in no (b .args .id) ≤ Model.registered (viewOf (b .args .self)) (b .args .kind)
 low c = let w = number (c .before .before) in let e = c .before .registered .ensures in let x = w .same in let z = c .before .before .if1 .left in omega (arith, c .if2 .left)
 
--- src/check.rt:100:22
 sub-object : tie.Need-sub-object
 sub-object c = search needs
 
--- src/check.rt:101:13
 vector-requires : tie.Need-vector-requires
 vector-requires c κs =
     let b = c .before .before .before .before .before .before .before .before .before in
@@ -107,11 +87,9 @@ vector-requires c κs =
     let x = w .same in
     (b .pre, omega arith)
 
--- src/check.rt:102:19
 pattern-requires : tie.Need-pattern-requires
 pattern-requires c κs = search needs
 
--- src/check.rt:102:12
 admits-requires : tie.Need-admits-requires
 admits-requires c κs = search needs
 
@@ -127,7 +105,6 @@ admission c =
     let w = number q .same in
     cc
 
--- src/check.rt:86:5
 returns-4 : tie.Need-returns-4
 returns-4 c =
     let q = c .before .before .before .before .before .before in
@@ -137,7 +114,6 @@ returns-4 c =
     let w = number q in
     ap (Admitted (p .before .before .before .task .given .0 .0)) (sym (ap index (w .same))) ∙ check-admits (viewOf (a .self)) (no (a .caller)) (a .operation) (no (a .id)) (a .kind) _ _ t (w .test) (low (c .before .before .before .before)) (sym (admission (c .before)) ∙ c .if3 .taken)
 
--- src/check.rt:86:5
 returns-5 : tie.Need-returns-5
 returns-5 c =
     let q = c .before .before .before .before .before .before in

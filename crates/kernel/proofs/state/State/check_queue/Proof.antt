@@ -1,9 +1,7 @@
 use borrow.Author.Needs.{needs}
-use mathlib.Core.Path.{_≡_, refl, sym, ap, _∙_}
+use mathlib.Core.Path.{_≡_, sym, ap, _∙_}
 use mir.Syntax.{w32}
 use mir.Val.{toZ, ofZ}
-use mir.Facts.{toZ-ofZ}
-use Prim.Native.Nat.{ℕ}
 use mathlib.Core.Bool.{not}
 use lib.Dec.{ltb}
 use lib.ListN.{length}
@@ -17,25 +15,16 @@ use Rattle.kernel.proofs.Back.{queues-held}
 use Rattle.kernel.proofs.Building.{opening-refuses, opening-passes}
 use Rattle.kernel.proofs.state.State.check_queue.Statement.{statement}
 use Rattle.kernel.proofs.state.State.check_queue.Tie as tie
-use Rattle.kernel.proofs.state.State.check_queue.Reads as reads
-use Rattle.kernel.proofs.state.State.check_queue.Lts as lts
-use Rattle.dataqueue.proofs.state.Queues.check.Reads as check-reads
-use Rattle.dataqueue.proofs.state.Queues.len.Reads as len-reads
-use Rattle.kernel.proofs.state.State.opening.Reads as opening-reads
-use Rattle.kernel.proofs.state.State.owns.Reads as owns-reads
 
--- src/table.rt:126:33
 len-requires : tie.Need-len-requires
 len-requires c κs = queues-held (c .before .pre)
 
 sign : (c : tie.After-struct-told) → let d = c .before .before .before .args .given .domain in toZ w32 (ofZ w32 d) ≡ d
 sign c = search needs
 
--- src/table.rt:126:59
 owns-requires : tie.Need-owns-requires
 owns-requires c κs = search needs
 
--- src/table.rt:126:13
 opening-requires : tie.Need-opening-requires
 opening-requires c κs = search needs
 
@@ -46,7 +35,6 @@ opens c =
     let o = rw (sign (c .before .before)) at (c .before .owns .ensures) in
     c .opening .ensures ∙ (λ i. resultOf (opening (a .self .closed) (l i) maxQueues (o i)))
 
--- src/table.rt:128:13
 returns : tie.Need-returns
 returns c =
     let p = c .before in
@@ -55,11 +43,9 @@ returns c =
     let e : toZ w32 (ofZ w32 z) ≡ z = search needs in
     e ∙ opening-refuses (a .self .closed) (not (ltb (length (viewOf (a .self) .queues)) maxQueues)) (not (owns (a .self .domains) (a .given .domain))) (entryCheck (viewOf (a .self) .queues) (a .given .attribute) (a .given .capacity)) z (opens p) (λ q. c .if1 .taken (ap (ofZ w32) q))
 
--- src/table.rt:130:9
 check-requires : tie.Need-check-requires
 check-requires c κs = queues-held (c .before .before .before .before .before .before .pre)
 
--- src/table.rt:121:5
 returns-2 : tie.Need-returns-2
 returns-2 c =
     let p = c .before .before in

@@ -1,9 +1,7 @@
 use borrow.Author.Needs.{needs}
-use mathlib.Core.Path.{_≡_, refl, sym, ap, _∙_}
+use mathlib.Core.Path.{_≡_, sym, ap, _∙_}
 use mir.Syntax.{w32}
 use mir.Val.{toZ, ofZ}
-use mir.Facts.{toZ-ofZ}
-use Prim.Native.Nat.{ℕ}
 use mathlib.Core.Bool.{not}
 use lib.Dec.{ltb}
 use lib.ListN.{length}
@@ -17,25 +15,16 @@ use Rattle.kernel.proofs.Back.{sems-held}
 use Rattle.kernel.proofs.Building.{opening-refuses, opening-passes}
 use Rattle.kernel.proofs.state.State.check_semaphore.Statement.{statement}
 use Rattle.kernel.proofs.state.State.check_semaphore.Tie as tie
-use Rattle.kernel.proofs.state.State.check_semaphore.Reads as reads
-use Rattle.kernel.proofs.state.State.check_semaphore.Lts as lts
-use Rattle.kernel.proofs.state.State.opening.Reads as opening-reads
-use Rattle.kernel.proofs.state.State.owns.Reads as owns-reads
-use Rattle.semaphore.proofs.entry.check.Reads as check-reads
-use Rattle.semaphore.proofs.state.Semaphores.len.Reads as len-reads
 
--- src/table.rt:114:33
 len-requires : tie.Need-len-requires
 len-requires c κs = sems-held (c .before .pre)
 
 sign : (c : tie.After-struct-told) → let d = c .before .before .before .args .given .domain in toZ w32 (ofZ w32 d) ≡ d
 sign c = search needs
 
--- src/table.rt:114:67
 owns-requires : tie.Need-owns-requires
 owns-requires c κs = search needs
 
--- src/table.rt:114:13
 opening-requires : tie.Need-opening-requires
 opening-requires c κs = search needs
 
@@ -46,7 +35,6 @@ opens c =
     let o = rw (sign (c .before .before)) at (c .before .owns .ensures) in
     c .opening .ensures ∙ (λ i. resultOf (opening (a .self .closed) (l i) maxSemaphores (o i)))
 
--- src/table.rt:116:13
 returns : tie.Need-returns
 returns c =
     let p = c .before in
@@ -55,11 +43,9 @@ returns c =
     let e : toZ w32 (ofZ w32 z) ≡ z = search needs in
     e ∙ opening-refuses (a .self .closed) (not (ltb (length (viewOf (a .self) .sems)) maxSemaphores)) (not (owns (a .self .domains) (a .given .domain))) (entryCheck (a .given .attribute) (a .given .start) (a .given .max)) z (opens p) (λ q. c .if1 .taken (ap (ofZ w32) q))
 
--- src/table.rt:118:9
 check-requires : tie.Need-check-requires
 check-requires c κs = search needs
 
--- src/table.rt:109:5
 returns-2 : tie.Need-returns-2
 returns-2 c =
     let p = c .before .before in

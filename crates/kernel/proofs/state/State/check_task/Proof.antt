@@ -1,37 +1,24 @@
 use borrow.Author.Needs.{needs}
-use mathlib.Core.Path.{_≡_, refl, sym, ap, _∙_}
+use mathlib.Core.Path.{_≡_, _∙_}
 use mir.Syntax.{w32}
 use mir.Val.{toZ, ofZ}
 use mir.Facts.{toZ-ofZ}
-use Prim.Native.Nat.{ℕ}
-use lib.ListN.{length}
 use Rattle.itron.specs.Limits.{maxTasks}
 use Rattle.model.specs.Answers.{resultOf}
-use Rattle.model.specs.Table.{ownsTask}
-use Rattle.kernel.specs.View.{viewOf}
 use Rattle.kernel.specs.Answers.{opening}
 use Rattle.kernel.proofs.Back.{tasks-held}
 use Rattle.kernel.proofs.state.State.check_task.Statement.{statement}
 use Rattle.kernel.proofs.state.State.check_task.Tie as tie
-use Rattle.kernel.proofs.state.State.check_task.Reads as reads
-use Rattle.kernel.proofs.state.State.check_task.Lts as lts
-use Rattle.kernel.proofs.state.State.opening.Reads as opening-reads
-use Rattle.kernel.proofs.state.State.owns_task.Reads as owns-task-reads
-use Rattle.tasks.proofs.state.Tasks.len.Reads as len-reads
 
--- src/table.rt:106:22
 len-requires : tie.Need-len-requires
 len-requires c κs = tasks-held (c .before .pre)
 
--- src/table.rt:106:46
 owns-task-requires : tie.Need-owns-task-requires
 owns-task-requires c κs = search needs
 
--- src/table.rt:106:9
 opening-requires : tie.Need-opening-requires
 opening-requires c κs = search needs
 
--- src/table.rt:101:5
 returns : tie.Need-returns
 returns c =
     let b = c .before .before .before .before in

@@ -4,23 +4,16 @@ use Rattle.kernel.proofs.Back.{enters-close}
 use Rattle.kernel.proofs.Building.{close-again, close-once}
 use Rattle.kernel.proofs.state.State.close.Statement.{statement}
 use Rattle.kernel.proofs.state.State.close.Tie as tie
-use Rattle.kernel.proofs.state.State.close.Reads as reads
-use Rattle.kernel.proofs.state.State.close.Lts as lts
-use Rattle.kernel.proofs.state.State.enter.Reads as enter-reads
 
--- src/table.rt:216:13
 enter-requires : tie.Need-enter-requires
 enter-requires c κs = search needs
 
--- src/table.rt:216:13
 returns : tie.Need-returns
 returns c = let b = c .before .before in enters-close (b .pre) (c .enter .ensures ∙ close-again (b .pre) (c .before .if1 .taken))
 
--- src/table.rt:219:9
 enter-requires-2 : tie.Need-enter-requires-2
 enter-requires-2 c κs = search needs
 
--- src/table.rt:211:5
 returns-2 : tie.Need-returns-2
 returns-2 c = let b = c .before .before in enters-close (b .pre) (c .enter2 .ensures ∙ close-once (b .pre) (c .before .if1 .left))
 

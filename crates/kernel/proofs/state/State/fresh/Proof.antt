@@ -1,5 +1,5 @@
 use borrow.Author.Needs.{needs}
-use mathlib.Core.Path.{_≡_, refl, sym, ap, _∙_}
+use mathlib.Core.Path.{sym, ap, _∙_}
 use mir.Syntax.{w32}
 use mir.Val.{toZ, ofZ}
 use mir.Facts.{toZ-ofZ}
@@ -9,39 +9,27 @@ use Rattle.kernel.proofs.Back.{begins}
 use Rattle.kernel.proofs.Building.{fresh-zero, fresh-none, fresh-some}
 use Rattle.kernel.proofs.state.State.fresh.Statement.{statement}
 use Rattle.kernel.proofs.state.State.fresh.Tie as tie
-use Rattle.kernel.proofs.state.State.fresh.Reads as reads
-use Rattle.kernel.proofs.state.State.fresh.Lts as lts
-use Rattle.access.proofs.domain.ordinal.Reads as ordinal-reads
-use Rattle.kernel.proofs.state.State.empty.Reads as empty-reads
-use Rattle.kernel.proofs.state.State.enter.Reads as enter-reads
 
--- src/table.rt:59:20
 empty-requires : tie.Need-empty-requires
 empty-requires c κs = search needs
 
--- src/table.rt:59:13
 enter-requires : tie.Need-enter-requires
 enter-requires c κs = search needs
 
--- src/table.rt:59:13
 returns : tie.Need-returns
 returns c =
     let b = c .before .before .before in
     begins (b .args .n) (c .enter .ensures ∙ ap (entered okNumber) (c .before .empty .ensures) ∙ fresh-zero (b .args .n) (sym (toZ-ofZ (b .fits .n)) ∙ ap (toZ w32) (c .before .before .if1 .taken)))
 
--- src/table.rt:61:13
 ordinal-requires : tie.Need-ordinal-requires
 ordinal-requires c κs = search needs
 
--- src/table.rt:63:20
 empty-requires-2 : tie.Need-empty-requires-2
 empty-requires-2 c κs = search needs
 
--- src/table.rt:63:13
 enter-requires-2 : tie.Need-enter-requires-2
 enter-requires-2 c κs = search needs
 
--- src/table.rt:63:13
 returns-2 : tie.Need-returns-2
 returns-2 c =
     let p = c .before .before .before in
@@ -49,15 +37,12 @@ returns-2 c =
     begins (b .args .n) (c .enter2 .ensures ∙ ap (entered (numberOf ePar)) (c .before .empty2 .ensures)
     ∙ fresh-none (b .args .n) (λ e. p .before .if1 .left (ap (ofZ w32) e)) (sym (rw (toZ-ofZ (b .fits .n)) at (p .ordinal .ensures)) ∙ c .before .before .if2 .taken))
 
--- src/table.rt:65:9
 empty-requires-3 : tie.Need-empty-requires-3
 empty-requires-3 c κs = search needs
 
--- src/table.rt:65:9
 enter-requires-3 : tie.Need-enter-requires-3
 enter-requires-3 c κs = search needs
 
--- src/table.rt:55:5
 returns-3 : tie.Need-returns-3
 returns-3 c =
     let p = c .before .before .before in

@@ -1,5 +1,5 @@
-use mathlib.Core.Path.{_≡_, refl, sym, ap, _∙_}
-use mathlib.Core.Bool.{Bool, not}
+use mathlib.Core.Path.{sym}
+use mathlib.Core.Bool.{not}
 use lib.Dec.{ltb}
 use borrow.Author.Tests.{le-ltb, lt-ltb}
 use Rattle.itron.specs.Codes.{eCtx, eNoid, eId}
@@ -7,22 +7,16 @@ use mathlib.Core.Option.{none}
 use Rattle.model.specs.Answers.{resultOf, refuseIf}
 use Rattle.kernel.proofs.state.State.opening.Statement.{statement}
 use Rattle.kernel.proofs.state.State.opening.Tie as tie
-use Rattle.kernel.proofs.state.State.opening.Reads as reads
-use Rattle.kernel.proofs.state.State.opening.Lts as lts
 
--- src/table.rt:93:13
 returns : tie.Need-returns
 returns c = let a = c .before .args in let h = sym (c .if1 .taken) in λ i. resultOf (refuseIf (h i) eCtx (refuseIf (not (ltb (a .used) (a .most))) eNoid (refuseIf (not (a .owned)) eId none)))
 
--- src/table.rt:96:13
 returns-2 : tie.Need-returns-2
 returns-2 c = let a = c .before .before .args in let h = sym (c .before .if1 .left) in let r = sym (le-ltb (a .used) (a .most) (c .if2 .taken)) in λ i. resultOf (refuseIf (h i) eCtx (refuseIf (not (r i)) eNoid (refuseIf (not (a .owned)) eId none)))
 
--- src/table.rt:89:5
 returns-3 : tie.Need-returns-3
 returns-3 c = let a = c .before .before .before .args in let h = sym (c .before .before .if1 .left) in let r = sym (lt-ltb (a .used) (a .most) (c .before .if2 .left)) in let o = sym (c .if3 .taken) in λ i. resultOf (refuseIf (h i) eCtx (refuseIf (not (r i)) eNoid (refuseIf (not (o i)) eId none)))
 
--- src/table.rt:89:5
 returns-4 : tie.Need-returns-4
 returns-4 c = let a = c .before .before .before .args in let h = sym (c .before .before .if1 .left) in let r = sym (lt-ltb (a .used) (a .most) (c .before .if2 .left)) in let o = sym (c .if3 .left) in λ i. resultOf (refuseIf (h i) eCtx (refuseIf (not (r i)) eNoid (refuseIf (not (o i)) eId none)))
 

@@ -1,24 +1,18 @@
 use borrow.Author.Needs.{needs}
-use mathlib.Core.Path.{_≡_, refl, sym, ap, _∙_}
+use mathlib.Core.Path.{sym, ap, _∙_}
 use mir.Syntax.{w32}
 use mir.Val.{toZ, ofZ}
 use mir.Facts.{toZ-ofZ}
 use Rattle.kernel.proofs.Building.{owns-none, owns-other}
 use Rattle.kernel.proofs.state.State.owns.Statement.{statement}
 use Rattle.kernel.proofs.state.State.owns.Tie as tie
-use Rattle.kernel.proofs.state.State.owns.Reads as reads
-use Rattle.kernel.proofs.state.State.owns.Lts as lts
-use Rattle.kernel.proofs.state.State.owns_task.Reads as owns-task-reads
 
--- src/table.rt:83:13
 returns : tie.Need-returns
 returns c = let b = c .before in owns-none (b .args .self .domains) (b .args .domain) (sym (toZ-ofZ (b .fits .domain)) ∙ ap (toZ w32) (c .if1 .taken))
 
--- src/table.rt:85:9
 owns-task-requires : tie.Need-owns-task-requires
 owns-task-requires c κs = search needs
 
--- src/table.rt:79:5
 returns-2 : tie.Need-returns-2
 returns-2 c =
     let b = c .before .before in

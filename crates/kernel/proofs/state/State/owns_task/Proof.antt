@@ -1,5 +1,5 @@
 use borrow.Author.Needs.{needs}
-use mathlib.Core.Path.{_≡_, refl, sym, ap, _∙_}
+use mathlib.Core.Path.{sym, ap, _∙_}
 use mir.Syntax.{w32}
 use mir.Val.{toZ, ofZ}
 use mir.Facts.{toZ-ofZ}
@@ -9,19 +9,13 @@ use lib.Dec.{eqb}
 use Rattle.kernel.proofs.Building.{owns-kernel, owns-user}
 use Rattle.kernel.proofs.state.State.owns_task.Statement.{statement}
 use Rattle.kernel.proofs.state.State.owns_task.Tie as tie
-use Rattle.kernel.proofs.state.State.owns_task.Reads as reads
-use Rattle.kernel.proofs.state.State.owns_task.Lts as lts
-use Rattle.access.proofs.domain.ordinal.Reads as ordinal-reads
 
--- src/table.rt:73:13
 returns : tie.Need-returns
 returns c = let b = c .before in owns-kernel (b .args .self .domains) (b .args .domain) (sym (toZ-ofZ (b .fits .domain)) ∙ ap (toZ w32) (c .if1 .taken))
 
--- src/table.rt:75:9
 ordinal-requires : tie.Need-ordinal-requires
 ordinal-requires c κs = search needs
 
--- src/table.rt:69:5
 returns-2 : tie.Need-returns-2
 returns-2 c =
     let b = c .before .before in

@@ -1,39 +1,29 @@
 use borrow.Author.Needs.{needs}
-use mathlib.Core.Path.{_≡_, refl, sym, ap, _∙_}
+use mathlib.Core.Path.{_≡_, sym, _∙_}
 use borrow.Author.Tests.{not-true, not-false}
 use mir.Syntax.{w32}
 use mir.Val.{toZ, ofZ}
 use mir.Facts.{toZ-ofZ}
-use Rattle.kernel.specs.View.{viewOf}
 use Rattle.kernel.proofs.Back.{regions-held}
 use Rattle.kernel.proofs.Building.{verdict-ctx, verdict-id, verdict-judged}
 use Rattle.kernel.proofs.state.State.prb_mem.Statement.{statement}
 use Rattle.kernel.proofs.state.State.prb_mem.Tie as tie
-use Rattle.kernel.proofs.state.State.prb_mem.Reads as reads
-use Rattle.kernel.proofs.state.State.prb_mem.Lts as lts
-use Rattle.kernel.proofs.state.State.owns_task.Reads as owns-task-reads
-use Rattle.regions.proofs.state.Regions.judge.Reads as judge-reads
 
--- src/mem.rt:19:13
 returns : tie.Need-returns
 returns c = let a = c .before .before .args in verdict-ctx (a .self) (a .domain) (a .base) (a .size) (a .wishes) (not-true (a .self .closed) (c .if1 .taken))
 
--- src/mem.rt:21:13
 owns-task-requires : tie.Need-owns-task-requires
 owns-task-requires c κs = search needs
 
--- src/mem.rt:22:13
 returns-2 : tie.Need-returns-2
 returns-2 c =
     let b = c .before .before .before .before in
     let a = b .args in
     verdict-id (a .self) (a .domain) (a .base) (a .size) (a .wishes) (not-false (a .self .closed) (c .before .before .if1 .left)) (sym (rw (toZ-ofZ (b .fits .domain)) at (c .before .owns-task .ensures)) ∙ not-true (c .before .owns-task .result) (c .if2 .taken))
 
--- src/mem.rt:25:9
 judge-requires : tie.Need-judge-requires
 judge-requires c κs = regions-held (c .before .before .before .before .before .pre)
 
--- src/mem.rt:14:5
 returns-3 : tie.Need-returns-3
 returns-3 c =
     let b = c .before .before .before .before .before .before in

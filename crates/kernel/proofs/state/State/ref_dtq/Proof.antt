@@ -1,24 +1,17 @@
 use borrow.Author.Needs.{needs}
-use Prim.Native.Nat.{ℕ, suc}
 use mathlib.Core.Path.{_≡_, refl, sym, ap, _∙_}
 use lib.IntN.{ℤ}
 use mir.Syntax.{w32}
 use mir.Val.{toZ, ofZ}
 use mir.Facts.{toZ-ofZ}
 use Rattle.model.specs.Calls as Model
-use Rattle.kernel.specs.View.{viewOf}
 use Rattle.model.specs.State.{zeroVector}
 use Rattle.model.specs.declared.Kind.the-variants.{Queue}
 use Rattle.kernel.proofs.Back.{tasks-held, queues-held}
 use Rattle.kernel.proofs.Calls.{checkOf, Admission, admission, queueReport, queue-refused, queue-told}
 use Rattle.kernel.proofs.state.State.ref_dtq.Statement.{statement}
 use Rattle.kernel.proofs.state.State.ref_dtq.Tie as tie
-use Rattle.kernel.proofs.state.State.ref_dtq.Reads as reads
-use Rattle.kernel.proofs.state.State.ref_dtq.Lts as lts
-use Rattle.dataqueue.proofs.call.refer.Reads as refer-reads
-use Rattle.kernel.proofs.state.State.check.Reads as check-reads
 
--- src/dtq.rt:101:15
 check-requires : tie.Need-check-requires
 check-requires c κs = search needs
 
@@ -26,25 +19,21 @@ check-requires c κs = search needs
 checks : (c : tie.After-check) → let a = c .before .args in checkOf (a .self) (a .caller) (Model.refer Queue (a .id)) ≡ c .check .result
 checks c = sym (rw (toZ-ofZ (c .before .fits .caller), toZ-ofZ (c .before .fits .id)) at (c .check .ensures))
 
--- src/dtq.rt:102:28
 enum-known-code : tie.Need-enum-known-code
 enum-known-code c = search needs
 
 admits : (c : tie.After-object) → let a = c .before .before .before .args in Admission (a .self) (a .caller) (Model.refer Queue (a .id)) (c .object .given .0 .0) (c .object .given .0 .1 .0)
 admits c = let a = c .before .before .before .args in admission (a .self) (a .caller) (Model.refer Queue (a .id)) _ _ (checks (c .before .before) ∙ c .object .given .1)
 
--- src/dtq.rt:110:32
 enum-known-object : tie.Need-enum-known-object
 enum-known-object c = search needs
 
--- src/dtq.rt:113:21
 refer-requires : tie.Need-refer-requires
 refer-requires c κs =
     let v = c .before .before .before .before .before .before .pre in
     let x = admits (c .before .before .before) in
     (tasks-held v, queues-held v, x .there)
 
--- src/dtq.rt:97:5
 returns : tie.Need-returns
 returns c =
     let p = c .before in
@@ -58,7 +47,6 @@ returns c =
       kept = refl;
     }
 
--- src/dtq.rt:97:5
 returns-2 : tie.Need-returns-2
 returns-2 c =
     let p = c .before .before .before .before .before in

@@ -1,24 +1,17 @@
 use borrow.Author.Needs.{needs}
-use Prim.Native.Nat.{ℕ, suc}
 use mathlib.Core.Path.{_≡_, refl, sym, ap, _∙_}
 use lib.IntN.{ℤ}
 use mir.Syntax.{w32}
 use mir.Val.{toZ, ofZ}
 use mir.Facts.{toZ-ofZ}
 use Rattle.model.specs.Calls as Model
-use Rattle.kernel.specs.View.{viewOf}
 use Rattle.model.specs.State.{zeroVector}
 use Rattle.model.specs.declared.Kind.the-variants.{Semaphore}
 use Rattle.kernel.proofs.Back.{tasks-held, sems-held}
 use Rattle.kernel.proofs.Calls.{checkOf, Admission, admission, semaphoreReport, semaphore-refused, semaphore-told}
 use Rattle.kernel.proofs.state.State.ref_sem.Statement.{statement}
 use Rattle.kernel.proofs.state.State.ref_sem.Tie as tie
-use Rattle.kernel.proofs.state.State.ref_sem.Reads as reads
-use Rattle.kernel.proofs.state.State.ref_sem.Lts as lts
-use Rattle.kernel.proofs.state.State.check.Reads as check-reads
-use Rattle.semaphore.proofs.call.refer.Reads as refer-reads
 
--- src/sem.rt:85:15
 check-requires : tie.Need-check-requires
 check-requires c κs = search needs
 
@@ -26,25 +19,21 @@ check-requires c κs = search needs
 checks : (c : tie.After-check) → let a = c .before .args in checkOf (a .self) (a .caller) (Model.refer Semaphore (a .id)) ≡ c .check .result
 checks c = sym (rw (toZ-ofZ (c .before .fits .caller), toZ-ofZ (c .before .fits .id)) at (c .check .ensures))
 
--- src/sem.rt:86:28
 enum-known-code : tie.Need-enum-known-code
 enum-known-code c = search needs
 
 admits : (c : tie.After-object) → let a = c .before .before .before .args in Admission (a .self) (a .caller) (Model.refer Semaphore (a .id)) (c .object .given .0 .0) (c .object .given .0 .1 .0)
 admits c = let a = c .before .before .before .args in admission (a .self) (a .caller) (Model.refer Semaphore (a .id)) _ _ (checks (c .before .before) ∙ c .object .given .1)
 
--- src/sem.rt:93:32
 enum-known-object : tie.Need-enum-known-object
 enum-known-object c = search needs
 
--- src/sem.rt:96:21
 refer-requires : tie.Need-refer-requires
 refer-requires c κs =
     let v = c .before .before .before .before .before .before .pre in
     let x = admits (c .before .before .before) in
     (tasks-held v, sems-held v, x .there)
 
--- src/sem.rt:81:5
 returns : tie.Need-returns
 returns c =
     let p = c .before in
@@ -58,7 +47,6 @@ returns c =
       kept = refl;
     }
 
--- src/sem.rt:81:5
 returns-2 : tie.Need-returns-2
 returns-2 c =
     let p = c .before .before .before .before .before in

@@ -6,35 +6,25 @@ use Rattle.kernel.proofs.Back.{sems-held, queues-held}
 use Rattle.kernel.proofs.Checks.{is-semaphore, is-queue}
 use Rattle.kernel.proofs.state.State.registered.Statement.{statement}
 use Rattle.kernel.proofs.state.State.registered.Tie as tie
-use Rattle.kernel.proofs.state.State.registered.Reads as reads
-use Rattle.kernel.proofs.state.State.registered.Lts as lts
-use Rattle.dataqueue.proofs.state.Queues.len.Reads as state-Queues-len-reads
-use Rattle.semaphore.proofs.state.Semaphores.len.Reads as state-Semaphores-len-reads
 
--- src/check.rt:59:21
 enum-told : tie.Need-enum-told
 enum-told c = search needs
 
--- src/check.rt:60:17
 len-requires : tie.Need-len-requires
 len-requires c κs = sems-held (c .before .before .before .pre)
 
--- src/check.rt:63:21
 enum-told-2 : tie.Need-enum-told-2
 enum-told-2 c = search needs
 
--- src/check.rt:64:17
 len-requires-2 : tie.Need-len-requires-2
 len-requires-2 c κs = queues-held (c .before .before .before .pre)
 
--- src/check.rt:53:5
 returns : tie.Need-returns
 returns c =
     let p = c .before .before .before in
     let a = p .before .args in
     c .len .ensures ∙ ap (registered (viewOf (a .self))) (sym (is-semaphore (a .kind) (p .match .keys1)))
 
--- src/check.rt:53:5
 returns-2 : tie.Need-returns-2
 returns-2 c =
     let p = c .before .before .before in

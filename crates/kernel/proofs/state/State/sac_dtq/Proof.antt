@@ -1,6 +1,6 @@
 use borrow.Author.Needs.{needs}
 use Prim.Native.Nat.{ℕ, suc}
-use mathlib.Core.Path.{_≡_, refl, sym, ap, _∙_}
+use mathlib.Core.Path.{_≡_, sym, ap, _∙_}
 use lib.IntN.{ℤ}
 use mir.Syntax.{w32}
 use mir.Val.{toZ, ofZ}
@@ -17,15 +17,7 @@ use Rattle.kernel.proofs.Back.{queues-held, promise}
 use Rattle.kernel.proofs.Calls.{checkOf, refused, Admission, admission, sets-queues}
 use Rattle.kernel.proofs.state.State.sac_dtq.Statement.{statement}
 use Rattle.kernel.proofs.state.State.sac_dtq.Tie as tie
-use Rattle.kernel.proofs.state.State.sac_dtq.Reads as reads
-use Rattle.kernel.proofs.state.State.sac_dtq.Lts as lts
-use Rattle.dataqueue.proofs.state.Queues.set_vector.Reads as set-vector-reads
-use Rattle.kernel.proofs.state.State.answer.Reads as answer-reads
-use Rattle.kernel.proofs.state.State.check.Reads as check-reads
-use Rattle.kernel.proofs.state.State.refuse.Reads as refuse-reads
-use Rattle.model.proofs.Reply.plain.Reads as plain-reads
 
--- src/dtq.rt:132:15
 check-requires : tie.Need-check-requires
 check-requires c κs = search needs
 
@@ -33,37 +25,30 @@ check-requires c κs = search needs
 checks : (c : tie.After-check) → let a = c .before .args in checkOf (a .self) (a .caller) (Model.setVector Queue (a .id) (a .vector)) ≡ c .check .result
 checks c = sym (rw (toZ-ofZ (c .before .fits .caller), toZ-ofZ (c .before .fits .id)) at (c .check .ensures))
 
--- src/dtq.rt:133:28
 enum-known-code : tie.Need-enum-known-code
 enum-known-code c = search needs
 
--- src/dtq.rt:133:37
 refuse-requires : tie.Need-refuse-requires
 refuse-requires c κs = search needs
 
 admits : (c : tie.After-object) → let a = c .before .before .before .args in Admission (a .self) (a .caller) (Model.setVector Queue (a .id) (a .vector)) (c .object .given .0 .0) (c .object .given .0 .1 .0)
 admits c = let a = c .before .before .before .args in admission (a .self) (a .caller) (Model.setVector Queue (a .id) (a .vector)) _ _ (checks (c .before .before) ∙ c .object .given .1)
 
--- src/dtq.rt:134:32
 enum-known-object : tie.Need-enum-known-object
 enum-known-object c = search needs
 
--- src/dtq.rt:136:17
 set-vector-requires : tie.Need-set-vector-requires
 set-vector-requires c κs =
     let v = c .before .before .before .before .before .pre in
     let x = admits (c .before .before) in
     (queues-held v, x .there)
 
--- src/dtq.rt:137:29
 plain-requires : tie.Need-plain-requires
 plain-requires c κs = search needs
 
--- src/dtq.rt:137:17
 answer-requires : tie.Need-answer-requires
 answer-requires c κs = search needs
 
--- src/dtq.rt:128:5
 returns : tie.Need-returns
 returns c =
     let p = c .before .before in
@@ -73,7 +58,6 @@ returns c =
     let e : toZ w32 (ofZ w32 d) ≡ d = search needs in
     promise (b .pre) _ (c .refuse .ensures ∙ ap (λ (z : ℤ). answered (plain z 0) (a .self)) e ∙ refused (b .pre) (a .caller) (Model.setVector Queue (a .id) (a .vector)) d (checks (p .before .before) ∙ p .code .given .1))
 
--- src/dtq.rt:128:5
 returns-2 : tie.Need-returns-2
 returns-2 c =
     let p = c .before .before .before .before .before in

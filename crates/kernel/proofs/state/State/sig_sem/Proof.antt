@@ -1,6 +1,6 @@
 use borrow.Author.Needs.{needs}
 use Prim.Native.Nat.{ℕ, suc}
-use mathlib.Core.Path.{_≡_, refl, sym, ap, _∙_}
+use mathlib.Core.Path.{_≡_, sym, ap, _∙_}
 use lib.IntN.{ℤ}
 use mir.Syntax.{w32}
 use mir.Val.{toZ, ofZ}
@@ -14,14 +14,7 @@ use Rattle.kernel.proofs.Back.{tasks-held, sems-held, promise}
 use Rattle.kernel.proofs.Calls.{checkOf, refused, Admission, admission, on-semaphores}
 use Rattle.kernel.proofs.state.State.sig_sem.Statement.{statement}
 use Rattle.kernel.proofs.state.State.sig_sem.Tie as tie
-use Rattle.kernel.proofs.state.State.sig_sem.Reads as reads
-use Rattle.kernel.proofs.state.State.sig_sem.Lts as lts
-use Rattle.kernel.proofs.state.State.check.Reads as check-reads
-use Rattle.kernel.proofs.state.State.refuse.Reads as refuse-reads
-use Rattle.kernel.proofs.state.State.with_semaphores.Reads as with-semaphores-reads
-use Rattle.semaphore.proofs.call.signal.Reads as signal-reads
 
--- src/sem.rt:39:15
 check-requires : tie.Need-check-requires
 check-requires c κs = search needs
 
@@ -29,33 +22,27 @@ check-requires c κs = search needs
 checks : (c : tie.After-check) → let a = c .before .args in checkOf (a .self) (a .caller) (Model.signal (a .id)) ≡ c .check .result
 checks c = sym (rw (toZ-ofZ (c .before .fits .caller), toZ-ofZ (c .before .fits .id)) at (c .check .ensures))
 
--- src/sem.rt:40:28
 enum-known-code : tie.Need-enum-known-code
 enum-known-code c = search needs
 
--- src/sem.rt:40:37
 refuse-requires : tie.Need-refuse-requires
 refuse-requires c κs = search needs
 
 admits : (c : tie.After-object) → let a = c .before .before .before .args in Admission (a .self) (a .caller) (Model.signal (a .id)) (c .object .given .0 .0) (c .object .given .0 .1 .0)
 admits c = let a = c .before .before .before .args in admission (a .self) (a .caller) (Model.signal (a .id)) _ _ (checks (c .before .before) ∙ c .object .given .1)
 
--- src/sem.rt:41:32
 enum-known-object : tie.Need-enum-known-object
 enum-known-object c = search needs
 
--- src/sem.rt:44:38
 signal-requires : tie.Need-signal-requires
 signal-requires c κs =
     let v = c .before .before .before .before .before .before .pre in
     let x = admits (c .before .before .before) in
     (tasks-held v, sems-held v, x .there)
 
--- src/sem.rt:44:17
 with-semaphores-requires : tie.Need-with-semaphores-requires
 with-semaphores-requires c κs = search needs
 
--- src/sem.rt:35:5
 returns : tie.Need-returns
 returns c =
     let p = c .before .before in
@@ -65,7 +52,6 @@ returns c =
     let e : toZ w32 (ofZ w32 d) ≡ d = search needs in
     promise (b .pre) _ (c .refuse .ensures ∙ ap (λ (z : ℤ). answered (plain z 0) (a .self)) e ∙ refused (b .pre) (a .caller) (Model.signal (a .id)) d (checks (p .before .before) ∙ p .code .given .1))
 
--- src/sem.rt:35:5
 returns-2 : tie.Need-returns-2
 returns-2 c =
     let p = c .before .before .before .before .before in

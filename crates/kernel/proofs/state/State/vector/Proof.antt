@@ -1,24 +1,18 @@
 use borrow.Author.Needs.{needs}
-use mathlib.Core.Path.{_≡_, sym, ap, _∙_}
+use mathlib.Core.Path.{sym, ap, _∙_}
 use Prim.Native.Nat.{suc, _<_}
 use lib.ListN.{length}
-use Rattle.model.specs.Calls.{registered, vectorAt}
+use Rattle.model.specs.Calls.{vectorAt}
 use Rattle.model.specs.declared.Kind.{Kind}
 use Rattle.kernel.specs.View.{viewOf}
 use Rattle.kernel.proofs.Back.{sems-held, queues-held}
 use Rattle.kernel.proofs.Checks.{is-semaphore, is-queue}
 use Rattle.kernel.proofs.state.State.vector.Statement.{statement}
 use Rattle.kernel.proofs.state.State.vector.Tie as tie
-use Rattle.kernel.proofs.state.State.vector.Reads as reads
-use Rattle.kernel.proofs.state.State.vector.Lts as lts
-use Rattle.dataqueue.proofs.state.Queues.vector.Reads as state-Queues-vector-reads
-use Rattle.semaphore.proofs.state.Semaphores.vector.Reads as state-Semaphores-vector-reads
 
--- src/check.rt:75:21
 enum-told : tie.Need-enum-told
 enum-told c = search needs
 
--- src/check.rt:76:17
 vector-requires : tie.Need-vector-requires
 vector-requires c κs =
     let p = c .before .before in
@@ -26,11 +20,9 @@ vector-requires c κs =
     let l : b .args .object < length (viewOf (b .args .self) .sems) = rw (is-semaphore (b .args .kind) (p .match .keys1)) at (b .pre .1) in
     (sems-held (b .pre .0), l)
 
--- src/check.rt:79:21
 enum-told-2 : tie.Need-enum-told-2
 enum-told-2 c = search needs
 
--- src/check.rt:80:17
 vector-requires-2 : tie.Need-vector-requires-2
 vector-requires-2 c κs =
     let p = c .before .before in
@@ -38,14 +30,12 @@ vector-requires-2 c κs =
     let l : b .args .object < length (viewOf (b .args .self) .queues) = rw (is-queue (b .args .kind) (p .match .keys2)) at (b .pre .1) in
     (queues-held (b .pre .0), l)
 
--- src/check.rt:69:5
 returns : tie.Need-returns
 returns c =
     let p = c .before .before .before in
     let a = p .before .args in
     c .vector .ensures ∙ ap (λ (k : Kind). vectorAt (viewOf (a .self)) k (suc (a .object))) (sym (is-semaphore (a .kind) (p .match .keys1)))
 
--- src/check.rt:69:5
 returns-2 : tie.Need-returns-2
 returns-2 c =
     let p = c .before .before .before in

@@ -12,23 +12,16 @@ use Rattle.kernel.proofs.Back.{tasks-held}
 use Rattle.kernel.proofs.Places.{no-waiter}
 use Rattle.kernel.proofs.state.State.waiter.Statement.{statement}
 use Rattle.kernel.proofs.state.State.waiter.Tie as tie
-use Rattle.kernel.proofs.state.State.waiter.Reads as reads
-use Rattle.kernel.proofs.state.State.waiter.Lts as lts
-use Rattle.tasks.proofs.state.Tasks.waiter.Reads as waiter-reads
 
--- src/query.rt:115:13
 returns : tie.Need-returns
 returns c = let b = c .before in let a = b .args in no-waiter (viewOf (a .self)) (b .pre .sound) (a .side) (a .number) (a .k) (c .if1 .taken)
 
--- src/query.rt:118:28
 sub-waiter : tie.Need-sub-waiter
 sub-waiter c = search needs
 
--- src/query.rt:118:9
 waiter-requires : tie.Need-waiter-requires
 waiter-requires c κs = tasks-held (c .before .before .pre)
 
--- src/query.rt:110:5
 returns-2 : tie.Need-returns-2
 returns-2 c =
     let b = c .before .before .before in

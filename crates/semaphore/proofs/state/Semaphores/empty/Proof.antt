@@ -2,10 +2,7 @@ use mathlib.Core.Path.{refl}
 use Rattle.semaphore.specs.Form.{semsAs}
 use Rattle.semaphore.proofs.state.Semaphores.empty.Statement.{statement}
 use Rattle.semaphore.proofs.state.Semaphores.empty.Tie as tie
-use Rattle.semaphore.proofs.state.Semaphores.empty.Reads as reads
-use Rattle.semaphore.proofs.state.Semaphores.empty.Lts as lts
 
--- src/state.rt:32:5
 returns : tie.Need-returns
 unfolding semsAs
 returns c = refl

@@ -1,10 +1,7 @@
 use Rattle.semaphore.proofs.Back.{count-seen}
 use Rattle.semaphore.proofs.state.Semaphores.len.Statement.{statement}
 use Rattle.semaphore.proofs.state.Semaphores.len.Tie as tie
-use Rattle.semaphore.proofs.state.Semaphores.len.Reads as reads
-use Rattle.semaphore.proofs.state.Semaphores.len.Lts as lts
 
--- src/state.rt:42:5
 returns : tie.Need-returns
 returns c = count-seen (c .pre)
 

@@ -1,20 +1,14 @@
-use native.Mathlib.Omega.{arith}
 use borrow.Author.Needs.{needs}
 use Rattle.semaphore.proofs.Back.{count-seen, put-seen}
 use Rattle.semaphore.proofs.state.Semaphores.put.Statement.{statement}
 use Rattle.semaphore.proofs.state.Semaphores.put.Tie as tie
-use Rattle.semaphore.proofs.state.Semaphores.put.Reads as reads
-use Rattle.semaphore.proofs.state.Semaphores.put.Lts as lts
 
--- src/state.rt:87:9
 mul-semaphore : tie.Need-mul-semaphore
 mul-semaphore c = let e = count-seen (c .pre .0) in search needs
 
--- src/state.rt:87:9
 element-set-from-semaphore : tie.Need-element-set-from-semaphore
 element-set-from-semaphore c = let e = count-seen (c .pre .0) in search needs
 
--- src/state.rt:83:5
 returns : tie.Need-returns
 returns c = put-seen (c .pre .0) (c .args .object) (c .args .semaphore) (c .pre .1)
 

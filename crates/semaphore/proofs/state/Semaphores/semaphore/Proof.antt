@@ -7,30 +7,22 @@ use Rattle.semaphore.specs.View.{semsOf}
 use Rattle.semaphore.proofs.Back.{count-seen, get-seen}
 use Rattle.semaphore.proofs.state.Semaphores.semaphore.Statement.{statement}
 use Rattle.semaphore.proofs.state.Semaphores.semaphore.Tie as tie
-use Rattle.semaphore.proofs.state.Semaphores.semaphore.Reads as reads
-use Rattle.semaphore.proofs.state.Semaphores.semaphore.Lts as lts
 
--- src/state.rt:66:13
 returns : tie.Need-returns
 returns c = at-zero noSem (semsOf (c .before .args .t1)) (c .before .args .number) (c .if1 .taken)
 
--- src/state.rt:69:13
 returns-2 : tie.Need-returns-2
 returns-2 c = let b = c .before .before in at-past noSem (semsOf (b .args .t1)) (b .args .number) (let e = count-seen (b .pre) in omega arith)
 
--- src/state.rt:71:18
 sub-at : tie.Need-sub-at
 sub-at c = search needs
 
--- src/state.rt:72:9
 mul-result : tie.Need-mul-result
 mul-result c = search needs
 
--- src/state.rt:72:9
 element-copy-out-result : tie.Need-element-copy-out-result
 element-copy-out-result c = search needs
 
--- src/state.rt:61:5
 returns-3 : tie.Need-returns-3
 returns-3 c = let b = c .before .before .before in get-seen (b .pre) _ (let e = count-seen (b .pre) in omega arith) ∙ at-index noSem (semsOf (b .args .t1)) (b .args .number) (c .before .before .if1 .left)
 

@@ -1,26 +1,18 @@
 use borrow.Author.Needs.{needs}
 use mathlib.Core.Path.{_∙_, ap}
-use Rattle.access.specs.declared.vector.Vector.{Vector}
 use Rattle.model.specs.declared.Semaphore.{Semaphore}
 use Rattle.semaphore.specs.View.{semsOf}
 use Rattle.semaphore.specs.Form.{semsAs}
 use lib.ListN.{set}
 use Rattle.semaphore.proofs.state.Semaphores.set_vector.Statement.{statement}
 use Rattle.semaphore.proofs.state.Semaphores.set_vector.Tie as tie
-use Rattle.semaphore.proofs.state.Semaphores.set_vector.Reads as reads
-use Rattle.semaphore.proofs.state.Semaphores.set_vector.Lts as lts
-use Rattle.semaphore.proofs.state.Semaphores.get.Reads as get-reads
-use Rattle.semaphore.proofs.state.Semaphores.put.Reads as put-reads
 
--- src/state.rt:104:13
 get-requires : tie.Need-get-requires
 get-requires c κs = search needs
 
--- src/state.rt:106:9
 put-requires : tie.Need-put-requires
 put-requires c κs = search needs
 
--- src/state.rt:100:5
 returns : tie.Need-returns
 returns c =
     let a = c .before .before .args in

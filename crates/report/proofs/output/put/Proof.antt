@@ -1,9 +1,9 @@
--- `replay::output::put` is safe and ends. The measure is what is left of the text. Assumes nothing.
+-- `report::output::put` is safe and ends. The measure is what is left of the text. Assumes nothing.
 use Prim.Native.Nat.{_-_, _≤_}
 use lib.ListN.{length}
 use borrow.Author.Needs.{needs}
-use Rattle.replay.proofs.output.put.Statement.{statement}
-use Rattle.replay.proofs.output.put.Tie as tie
+use Rattle.report.proofs.output.put.Statement.{statement}
+use Rattle.report.proofs.output.put.Tie as tie
 
 abbrev Inv-loop : tie.InvT-loop
 Inv-loop out₀ at text end₀ i₀ out end i = i ≤ length text

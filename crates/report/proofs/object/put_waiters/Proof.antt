@@ -1,8 +1,8 @@
--- `replay::dump::put_waiters` is safe and ends. The measure is the count of tasks that are not yet asked for. Assumes nothing.
+-- `report::object::put_waiters` is safe and ends. The measure is the count of tasks that are not yet asked for. Assumes nothing.
 use borrow.Author.Needs.{needs}
 use Prim.Native.Nat.{_-_}
-use Rattle.replay.proofs.dump.put_waiters.Statement.{statement}
-use Rattle.replay.proofs.dump.put_waiters.Tie as tie
+use Rattle.report.proofs.object.put_waiters.Statement.{statement}
+use Rattle.report.proofs.object.put_waiters.Tie as tie
 
 abbrev Inv-loop : tie.InvT-loop
 Inv-loop out₀ at state side number end₀ k₀ out end k = Unit {0}

@@ -1,12 +1,12 @@
--- `replay::output::put_signed` is safe: a number of 32 bits fits 64, with either sign. Assumes nothing.
+-- `report::output::put_signed` is safe: a number of 32 bits fits 64, with either sign. Assumes nothing.
 use borrow.Author.Needs.{needs}
 use mathlib.Core.Path.{_≡_}
 use mir.Syntax.{w32, w64}
 use mir.Val.{toZ, ofZ}
 use mir.Facts.{toZ-ofZ, sfits-widen}
-use Rattle.replay.proofs.Signs.{minus-fits, minus-size, plain-size}
-use Rattle.replay.proofs.output.put_signed.Statement.{statement}
-use Rattle.replay.proofs.output.put_signed.Tie as tie
+use Rattle.report.proofs.Signs.{minus-fits, minus-size, plain-size}
+use Rattle.report.proofs.output.put_signed.Statement.{statement}
+use Rattle.report.proofs.output.put_signed.Tie as tie
 
 -- the number is the same in 64 bits
 same : (c : tie.Start) → toZ w64 (ofZ w64 (toZ w32 (ofZ w32 (c .args .number)))) ≡ c .args .number

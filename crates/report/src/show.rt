@@ -1,13 +1,13 @@
-// The answers as text (replay.md, "Output").
+// The answers as text (docs/replay.md, "Output").
 use crate::names::put_code;
 use crate::names::put_outcome;
 use crate::output::put_named;
 use access::audit::Admissions;
 use access::audit::AuditReport;
 use access::vector::Vector;
-use kernel::state::Answer;
 use kernel::dtq::QueueReport;
 use kernel::sem::SemaphoreReport;
+use kernel::state::Answer;
 
 // ` vector=P,P,P,P`
 pub fn put_vector(out: &mut [u8; 4096], at: usize, vector: Vector) -> usize {

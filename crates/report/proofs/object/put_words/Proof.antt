@@ -1,8 +1,8 @@
--- `replay::dump::put_words` is safe and ends. The measure is the count of words left. Assumes nothing.
+-- `report::object::put_words` is safe and ends. The measure is the count of words left. Assumes nothing.
 use borrow.Author.Needs.{needs}
 use Prim.Native.Nat.{_-_}
-use Rattle.replay.proofs.dump.put_words.Statement.{statement}
-use Rattle.replay.proofs.dump.put_words.Tie as tie
+use Rattle.report.proofs.object.put_words.Statement.{statement}
+use Rattle.report.proofs.object.put_words.Tie as tie
 
 abbrev Inv-loop : tie.InvT-loop
 Inv-loop out₀ at state number count end₀ k₀ out end k = Unit {0}

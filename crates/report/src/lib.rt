@@ -1,0 +1,5 @@
+// Answers and the state as text (docs/replay.md, "Output"): each function puts bytes into a block and answers how many it then has. No I/O.
+pub mod names;
+pub mod object;
+pub mod output;
+pub mod show;
