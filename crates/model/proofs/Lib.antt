@@ -1,5 +1,7 @@
 pub mod Lists
+pub mod Tests
 pub mod Cases
+pub mod Answers
 pub mod Cover
 pub mod Queues
 pub mod Steps
@@ -7,3 +9,5 @@ pub mod Sound
 pub mod Table
 pub mod Demand3
 pub mod Turns
+pub mod Verdict
+pub mod Entries

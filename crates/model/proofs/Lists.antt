@@ -5,7 +5,7 @@ use mathlib.Core.Bool.{Bool, true, false, not, _&&_}
 use mathlib.Core.List.{List, [], _∷_, _++_}
 use Prim.Native.Nat.{ℕ, zero, suc, _+_, _-_, _≤_, _<_}
 use native.Mathlib.Omega.{arith}
-use lib.ListN.{length, getD, set}
+use lib.ListN.{length, getD, set, length-set}
 use lib.Seq.{getD-set-same, getD-set-other}
 use lib.Dec.{eqb, T, eqb→eq, eqb-refl}
 pub use Rattle.model.specs.Conditions.{Distinct}
@@ -98,6 +98,10 @@ module _ {A : Type 0} where
 
 -- ---- keep
 module _ {A : Type 0} where
+  pub length-put : (l : List A) (n : ℕ) (x : A) → length (put l n x) ≡ length l
+  length-put l zero x = refl
+  length-put l (suc n) x = length-set l n x
+
   pub consIf-append : (b : Bool) (x : A) (l m : List A) → consIf b x l ++ m ≡ consIf b x (l ++ m)
   consIf-append true x l m = refl
   consIf-append false x l m = refl

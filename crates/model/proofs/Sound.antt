@@ -5,7 +5,7 @@ use mathlib.Core.Bool.{Bool, true, false, not}
 use mathlib.Core.List.{List, [], _∷_, _++_}
 use Prim.Native.Nat.{ℕ, zero, suc, _+_, _≤_, _<_}
 use native.Mathlib.Omega.{arith}
-use lib.ListN.{length, length-append, length-set}
+use lib.ListN.{length, length-append}
 use lib.Dec.{eqb, leb, nleb→lt}
 use lib.IntN.{ℤ}
 use Rattle.itron.specs.Codes.{eCtx}
@@ -17,7 +17,7 @@ use Rattle.model.specs.Lists.{at, put, keep, consIf, All}
 use Rattle.model.specs.Queues.{wordsUsed}
 use Rattle.model.specs.State.{Vector, Fixed, Sem, Queue, onSem, receiving, sending, Place, Waiter, State, place, samePlace, noSem, noQueue, semAt, queueAt, waiter}
 use Rattle.model.specs.Waits.{isOther, absent, waitersAt}
-use Rattle.model.proofs.Lists.{all-keep, all-snoc, all-put, eq-of, ne-of, Distinct, distinct-keep, distinct-snoc, keep-absent, at-put-same, at-put-other, at-put-keep}
+use Rattle.model.proofs.Lists.{all-keep, all-snoc, all-put, eq-of, ne-of, Distinct, distinct-keep, distinct-snoc, keep-absent, at-put-same, at-put-other, at-put-keep, length-put}
 use Rattle.model.proofs.Cover.{Covers, call, cover}
 use Rattle.model.proofs.Queues.{release-other, join-other, unlike}
 use Rattle.model.proofs.Steps.{lt-of, fixed-law, queue-law}
@@ -164,10 +164,6 @@ used-put l zero x e = refl
 used-put [] (suc n) x e = refl
 used-put (y ∷ l) (suc zero) x e = ap (λ (c : ℕ). c + wordsUsed l) e
 used-put (y ∷ l) (suc (suc n)) x e = ap (λ (c : ℕ). y .capacity + c) (used-put l (suc n) x e)
-
-pub length-put : {A : Type 0} (l : List A) (n : ℕ) (x : A) → length (put l n x) ≡ length l
-length-put l zero x = refl
-length-put l (suc n) x = length-set l n x
 
 module _ {ds : List ℤ} {ws : List Waiter} (f : WaitsFit ds ws) where
   pub waits-leave : (t : ℕ) → WaitsFit ds (keep (isOther t) ws)

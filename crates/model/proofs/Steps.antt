@@ -14,9 +14,9 @@ use Rattle.model.specs.Answers.{noInfo, Out}
 use Rattle.model.specs.Calls.{isRefer, Kind, semaphore, queue, refer, Call, no, vectorAt, registered, setVectorOf, step}
 use Rattle.model.specs.History.{without, event, handed, handedBy, sent, sentBy, joined, joinedBy, grants, grantBy, signals, signalBy, countIf, vectorBy, either, sameKind}
 use Rattle.model.specs.Lists.{at, only}
-use Rattle.model.specs.State.{Vector, Sem, Queue, Side, onSem, receiving, sending, Waiter, State, place, samePlace, noSem, noQueue, semAt, queueAt, waiter}
+use Rattle.model.specs.State.{Vector, Sem, Queue, Side, onSem, receiving, sending, Waiter, State, place, samePlace, noSem, noQueue, semAt, queueAt, waiter, zeroVector}
 use Rattle.model.specs.Waits.{isOther, waitersAt}
-use Rattle.model.proofs.Lists.{eq-of, ne-of, no-both, Distinct, distinct-keep, distinct-snoc, at-put-same, at-put-other, at-put-keep}
+use Rattle.model.proofs.Lists.{eq-of, ne-of, no-both, Distinct, distinct-keep, distinct-snoc, at-put-same, at-put-other, at-put-keep, length-put}
 use Rattle.model.proofs.Cover.{Covers, call, cover}
 use Rattle.model.proofs.Queues.{qview, qview-eq, qviewOf, QueueOk, Kept, stay, split, via, pass, store, queueUp, take, refill, direct, await, release-same, release-other, join-same, join-other, unlike, alike}
 
@@ -335,3 +335,60 @@ info-cases s = record {
 
 pub info-law : (s : State) (c : Call) → isRefer (c .op) ≡ false → step s c .answer .info ≡ noInfo
 info-law s c = cover s InfoLaw (info-cases s) c
+
+-- ---- an entry is kept as given: a call changes no object's owner, attribute, limit or capacity, and no number of objects
+abbrev pub semEntry : Sem → Sem
+semEntry x = record { domain = x .domain; attribute = x .attribute; max = x .max; count = 0; vector = zeroVector }
+
+abbrev pub queueEntry : Queue → Queue
+queueEntry x = record { domain = x .domain; attribute = x .attribute; capacity = x .capacity; buffer = []; vector = zeroVector }
+
+pub record EntriesStay (s s′ : State) : Type 0 where
+  pub sems : (i : ℕ) → semEntry (semAt s′ i) ≡ semEntry (semAt s i)
+  pub queues : (q : ℕ) → queueEntry (queueAt s′ q) ≡ queueEntry (queueAt s q)
+  pub semCount : length (s′ .sems) ≡ length (s .sems)
+  pub queueCount : length (s′ .queues) ≡ length (s .queues)
+
+abbrev EntryLaw : State → Call → Out → Type 0
+EntryLaw s c o = EntriesStay s (o .state)
+
+module _ (s : State) where
+  entries-stay : EntriesStay s s
+  entries-stay = record { sems = λ i. refl; queues = λ q. refl; semCount = refl; queueCount = refl }
+
+  entries-waits : (l : List Waiter) → EntriesStay s (setWaits s l)
+  entries-waits l = record { sems = λ i. refl; queues = λ q. refl; semCount = refl; queueCount = refl }
+
+  entries-count : (n k : ℕ) → EntriesStay s (setCount s n k)
+  entries-count n k = record { sems = λ i. at-put-keep semEntry noSem (s .sems) n i _ refl; queues = λ q. refl; semCount = length-put (s .sems) n _; queueCount = refl }
+
+  entries-buffer : (n : ℕ) (b : List ℕ) → EntriesStay s (setBuffer s n b)
+  entries-buffer n b = record { sems = λ i. refl; queues = λ q. at-put-keep queueEntry noQueue (s .queues) n q _ refl; semCount = refl; queueCount = length-put (s .queues) n _ }
+
+  entries-refill : (n : ℕ) (b : List ℕ) (l : List Waiter) → EntriesStay s (setWaits (setBuffer s n b) l)
+  entries-refill n b l = let k = entries-buffer n b in record { sems = k .sems; queues = k .queues; semCount = k .semCount; queueCount = k .queueCount }
+
+  entries-vector : (k : Kind) (n : ℕ) (v : Vector) → EntriesStay s (setVectorOf s k n v)
+  entries-vector semaphore n v = record { sems = λ i. at-put-keep semEntry noSem (s .sems) n i _ refl; queues = λ q. refl; semCount = length-put (s .sems) n _; queueCount = refl }
+  entries-vector queue n v = record { sems = λ i. refl; queues = λ q. at-put-keep queueEntry noQueue (s .queues) n q _ refl; semCount = refl; queueCount = length-put (s .queues) n _ }
+
+  entry-cases : Covers s (EntryLaw s)
+  entry-cases = record {
+    refused = λ c e. entries-stay;
+    signalWakes = λ t n a e l h. entries-waits _;
+    signalCounts = λ t n a h r. entries-count (no n) _;
+    acquires = λ t n p a m h. entries-count (no n) m;
+    acquireWaits = λ t n a h. entries-waits _;
+    sendPasses = λ t n w p a e l h. entries-waits _;
+    sendStores = λ t n w p a h r. entries-buffer (no n) _;
+    sendWaits = λ t n w a h r. entries-waits _;
+    receives = λ t n p a x b h r. entries-buffer (no n) b;
+    receiveRefills = λ t n p a x b e l h r. entries-refill (no n) _ _;
+    receivePasses = λ t n p a e l h r. entries-waits _;
+    receiveWaits = λ t n a h r. entries-waits _;
+    refers = λ t n m a. entries-stay;
+    setsVector = λ t n m v a. entries-vector m (no n) v;
+  }
+
+pub entry-law : (s : State) (c : Call) → EntriesStay s (step s c .state)
+entry-law s c = cover s (EntryLaw s) (entry-cases s) c

@@ -1,0 +1,147 @@
+// The calls on a closed table, each with its line.
+ghost use Rattle.kernel.specs.Valid.{Valid};
+use crate::names;
+use crate::print::address;
+use crate::print::named;
+use crate::print::signed;
+use crate::print::text;
+use crate::say::patterns;
+use crate::say::say;
+use crate::say::say_queue;
+use crate::say::say_semaphore;
+use access::vector::Vector;
+use kernel::state::State;
+
+fn label(task: i32, does: &[u8], id: i32) {
+    text(b"\n  task ");
+    signed(task);
+    text(does);
+    signed(id);
+}
+
+fn label_word(task: i32, does: &[u8], id: i32, word: u32) {
+    label(task, does, id);
+    named(b" the word ", word as u64);
+}
+
+fn label_vector(task: i32, does: &[u8], id: i32, vector: Vector) {
+    label(task, does, id);
+    patterns(b" to", vector);
+}
+
+fn label_area(domain: i32, base: u32, size: u32, wishes: u32) {
+    text(b"\n  domain ");
+    signed(domain);
+    text(b" asks to ");
+    names::wish(wishes);
+    address(b" at ", base);
+    named(b", size ", size as u64);
+}
+
+pub fn sig_sem(s: State, task: i32, id: i32) -> State
+    requires { ⌜ Valid s ⌝ }
+    ensures { λ r. ⌜ Valid r ⌝ }
+{
+    label(task, b" signals semaphore ", id);
+    say(s.sig_sem(task, id))
+}
+
+pub fn pol_sem(s: State, task: i32, id: i32) -> State
+    requires { ⌜ Valid s ⌝ }
+    ensures { λ r. ⌜ Valid r ⌝ }
+{
+    label(task, b" polls semaphore ", id);
+    say(s.pol_sem(task, id))
+}
+
+pub fn wai_sem(s: State, task: i32, id: i32) -> State
+    requires { ⌜ Valid s ⌝ }
+    ensures { λ r. ⌜ Valid r ⌝ }
+{
+    label(task, b" waits for semaphore ", id);
+    say(s.wai_sem(task, id))
+}
+
+pub fn ref_sem(s: State, task: i32, id: i32) -> State
+    requires { ⌜ Valid s ⌝ }
+    ensures { λ r. ⌜ Valid r ⌝ }
+{
+    label(task, b" refers to semaphore ", id);
+    let report = s.ref_sem(task, id);
+    let vector = report.vector;
+    say_semaphore(report.code, report.waiter, report.count, vector);
+    report.state
+}
+
+pub fn sac_sem(s: State, task: i32, id: i32, vector: Vector) -> State
+    requires { ⌜ Valid s ⌝ }
+    ensures { λ r. ⌜ Valid r ⌝ }
+{
+    label_vector(task, b" sets the vector of semaphore ", id, vector);
+    say(s.sac_sem(task, id, vector))
+}
+
+pub fn psnd_dtq(s: State, task: i32, id: i32, word: u32) -> State
+    requires { ⌜ Valid s ⌝ }
+    ensures { λ r. ⌜ Valid r ⌝ }
+{
+    label_word(task, b" poll-sends to queue ", id, word);
+    say(s.psnd_dtq(task, id, word))
+}
+
+pub fn snd_dtq(s: State, task: i32, id: i32, word: u32) -> State
+    requires { ⌜ Valid s ⌝ }
+    ensures { λ r. ⌜ Valid r ⌝ }
+{
+    label_word(task, b" sends to queue ", id, word);
+    say(s.snd_dtq(task, id, word))
+}
+
+pub fn prcv_dtq(s: State, task: i32, id: i32) -> State
+    requires { ⌜ Valid s ⌝ }
+    ensures { λ r. ⌜ Valid r ⌝ }
+{
+    label(task, b" poll-receives from queue ", id);
+    say(s.prcv_dtq(task, id))
+}
+
+pub fn rcv_dtq(s: State, task: i32, id: i32) -> State
+    requires { ⌜ Valid s ⌝ }
+    ensures { λ r. ⌜ Valid r ⌝ }
+{
+    label(task, b" receives from queue ", id);
+    say(s.rcv_dtq(task, id))
+}
+
+pub fn ref_dtq(s: State, task: i32, id: i32) -> State
+    requires { ⌜ Valid s ⌝ }
+    ensures { λ r. ⌜ Valid r ⌝ }
+{
+    label(task, b" refers to queue ", id);
+    let report = s.ref_dtq(task, id);
+    let vector = report.vector;
+    say_queue(
+        report.code,
+        report.sender,
+        report.receiver,
+        report.count,
+        vector,
+    );
+    report.state
+}
+
+pub fn sac_dtq(s: State, task: i32, id: i32, vector: Vector) -> State
+    requires { ⌜ Valid s ⌝ }
+    ensures { λ r. ⌜ Valid r ⌝ }
+{
+    label_vector(task, b" sets the vector of queue ", id, vector);
+    say(s.sac_dtq(task, id, vector))
+}
+
+// The memory verdict.
+pub fn prb_mem(s: State, domain: i32, base: u32, size: u32, wishes: u32)
+    requires { ⌜ Valid s ⌝ }
+{
+    label_area(domain, base, size, wishes);
+    names::code(s.prb_mem(domain, base, size, wishes));
+}

@@ -1,0 +1,27 @@
+// The bench runs and the easy slips of document 01, through the kernel's public operations, one line for each step.
+pub mod calls;
+pub mod entries;
+pub mod extremes;
+pub mod names;
+pub mod print;
+pub mod runs;
+pub mod say;
+pub mod slips;
+pub mod table;
+
+use crate::print::text;
+
+fn main() {
+    text(
+        b"Each step with the kernel's answer; a call's word and released task are left out where there is none",
+    );
+    let table = table::closed();
+    runs::s(table);
+    runs::q(table);
+    table::limits();
+    runs::numbers(table);
+    runs::regions(table);
+    slips::all(table);
+    extremes::all(table);
+    text(b"\n");
+}

@@ -1,0 +1,72 @@
+// How answers are told: a code or `waiting`, then a call's word and released task where they are not 0.
+ghost use Rattle.kernel.specs.Valid.{Valid};
+use crate::names;
+use crate::print::named;
+use crate::print::text;
+use access::vector::Vector;
+use kernel::state::Answer;
+use kernel::state::Entered;
+use kernel::state::State;
+use model::Outcome;
+use model::Released;
+
+// A vector, after whatever names it.
+pub fn patterns(name: &[u8], vector: Vector) {
+    text(name);
+    named(b" ", vector.normal1 as u64);
+    named(b" ", vector.normal2 as u64);
+    named(b" ", vector.management as u64);
+    named(b" ", vector.reference as u64);
+}
+
+fn say_reply(outcome: Outcome, word: u32, released: Released) {
+    match outcome {
+        Outcome::Code(code) => names::code(code),
+        Outcome::Waiting => text(b": waiting"),
+    }
+    if word != 0 {
+        named(b", word ", word as u64);
+    }
+    if released.task != 0 {
+        named(b", releases task ", released.task as u64);
+    }
+    if released.word != 0 {
+        named(b" with word ", released.word as u64);
+    }
+}
+
+// The rest of a call's line; gives the state for the next call.
+pub fn say(answer: Answer) -> State
+    requires { ⌜ Valid (answer .state) ⌝ }
+    ensures { λ r. ⌜ Valid r ⌝ }
+{
+    let outcome = answer.outcome;
+    let released = answer.released;
+    say_reply(outcome, answer.word, released);
+    answer.state
+}
+
+// The rest of an entry's line.
+pub fn say_entered(entered: Entered) -> State
+    requires { ⌜ Valid (entered .state) ⌝ }
+    ensures { λ r. ⌜ Valid r ⌝ }
+{
+    names::code(entered.code);
+    entered.state
+}
+
+// The rest of a refer's line.
+pub fn say_semaphore(code: i32, waiter: usize, count: u32, vector: Vector) {
+    names::code(code);
+    named(b", first waiter ", waiter as u64);
+    named(b", count ", count as u64);
+    patterns(b", vector", vector);
+}
+
+pub fn say_queue(code: i32, sender: usize, receiver: usize, count: usize, vector: Vector) {
+    names::code(code);
+    named(b", first sender ", sender as u64);
+    named(b", first receiver ", receiver as u64);
+    named(b", words ", count as u64);
+    patterns(b", vector", vector);
+}

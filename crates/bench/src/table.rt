@@ -1,0 +1,66 @@
+// The bench table, and the limits of a table.
+ghost use Rattle.kernel.specs.Valid.{Valid};
+use crate::entries::add_queue;
+use crate::entries::add_region;
+use crate::entries::add_semaphore;
+use crate::entries::add_task;
+use crate::entries::close;
+use crate::entries::fresh;
+use crate::entries::given;
+use crate::print::heading;
+use access::domain::KERNEL_DOMAIN;
+use access::domain::NO_DOMAIN;
+use access::vector::Choice;
+use kernel::state::State;
+use regions::flag::EXECUTABLE;
+use regions::flag::NO_WRITE;
+
+// Tasks, semaphore and queues of all runs, and the regions; document 01 leaves the owners open.
+pub fn closed() -> State
+    ensures { λ r. ⌜ Valid r ⌝ }
+{
+    heading(b"The table of all runs");
+    let mut s = fresh(2);
+    s = add_task(s, 1);
+    s = add_task(s, 2);
+    s = add_task(s, KERNEL_DOMAIN);
+    s = add_task(s, 1);
+    s = add_semaphore(s, NO_DOMAIN, 0, 1, 2, given(1, 1, 0, 3));
+    s = add_queue(s, NO_DOMAIN, 0, 2, given(1, 1, 0, 3));
+    s = add_queue(s, NO_DOMAIN, 0, 0, given(3, 3, 0, 3));
+    let attribute = NO_WRITE + EXECUTABLE;
+    s = add_region(
+        s,
+        KERNEL_DOMAIN,
+        attribute,
+        0x1000,
+        0x1000,
+        given(0, 3, 0, 3),
+    );
+    s = add_region(s, KERNEL_DOMAIN, 0, 0x2000, 0x1000, given(1, 1, 0, 1));
+    close(s)
+}
+
+// Four queues of the largest capacity: half of all words.
+fn four_queues(table: State) -> State
+    requires { ⌜ Valid table ⌝ }
+    ensures { λ r. ⌜ Valid r ⌝ }
+{
+    let mut s = add_queue(table, NO_DOMAIN, 0, 64, Choice::Default);
+    s = add_queue(s, NO_DOMAIN, 0, 64, Choice::Default);
+    s = add_queue(s, NO_DOMAIN, 0, 64, Choice::Default);
+    add_queue(s, NO_DOMAIN, 0, 64, Choice::Default)
+}
+
+pub fn limits() {
+    heading(b"Table");
+    fresh(33);
+    let mut s = fresh(32);
+    s = add_semaphore(s, NO_DOMAIN, 0, 0, 65_535, Choice::Default);
+    s = add_semaphore(s, NO_DOMAIN, 0, 0, 65_536, Choice::Default);
+    s = add_semaphore(s, NO_DOMAIN, 0, 2, 1, Choice::Default);
+    s = four_queues(s);
+    s = four_queues(s);
+    s = add_queue(s, NO_DOMAIN, 0, 1, Choice::Default);
+    add_queue(s, NO_DOMAIN, 0, 0, Choice::Default);
+}

@@ -1,0 +1,361 @@
+-- Building the table (document 01): which entry is taken and which code another gets, and what an entry or the closing changes. Plain facts only.
+use mathlib.Core.Path.{_≡_, refl, sym, ap, _∙_, subst}
+use mathlib.Core.Logic.{_≢_, _⊎_}
+use mathlib.Core.Bool.{Bool, true, false, not}
+use mathlib.Core.List.{List, [], _∷_, _++_}
+use mathlib.Core.Option.{Option, none, some}
+use Prim.Native.Nat.{ℕ, zero, suc, _+_, _≤_, _<_}
+use native.Mathlib.Omega.{arith}
+use native.Mathlib.Numerals.{add-one}
+use lib.ListN.{length, length-append}
+use lib.IntN.{ℤ, pos, negsuc}
+use Rattle.access.specs.Vectors.{resolved}
+use Rattle.access.specs.declared.vector.Choice.{Choice}
+use Rattle.itron.specs.Codes.{Err, eCtx, eId, eNoid, eRsatr, ePar, eObj, eNomem, ok, error}
+use Rattle.itron.specs.Limits.{maxDomains, maxTasks, maxSemaphores, maxQueues, maxRegions, maxCount, maxCapacity, maxWords, addressEnd}
+use Rattle.model.specs.Lists.{at}
+use Rattle.model.specs.State.{Sem, Queue, Region, State, noSem, noQueue, noRegion}
+use Rattle.model.specs.Answers.{Out, refuseIf}
+use Rattle.model.specs.Queues.{wordsUsed}
+use Rattle.model.specs.Regions.{lastEnd}
+use Rattle.model.specs.Table.{Entry, task, sem, queue, region, hasRoom, owns, ownsTask, domainOk, attributeOk, numbersOk, placeOk, memoryOk, checkEntry, enterBy, enter, freshBy, fresh, closeBy, close}
+use Rattle.model.proofs.Tests.{Tells, holds, fails, le-tells, lt-tells, eq-tells, always-tells, never-tells, and-tells, or-tells, not-tells, passes-on, stops-at}
+
+-- ---- what the checks ask
+-- "kind full"
+abbrev pub Room : State → Entry → Type 0
+Room s (task d) = length (s .fixed .domains) < maxTasks
+Room s (sem d a b m v) = length (s .sems) < maxSemaphores
+Room s (queue d a c v) = length (s .queues) < maxQueues
+Room s (region d a b z v) = length (s .fixed .regions) < maxRegions
+
+-- "domain not -1, not -2 and not 1 to n, or -2 for a task"
+abbrev pub Owner : ℕ → ℤ → Type 0
+Owner n (pos d) = (d ≢ 0) × (d ≤ n)
+Owner n (negsuc zero) = Unit
+Owner n (negsuc (suc zero)) = Unit
+Owner n (negsuc (suc (suc k))) = ⊥
+
+abbrev pub TaskOwner : ℕ → ℤ → Type 0
+TaskOwner n (pos d) = (d ≢ 0) × (d ≤ n)
+TaskOwner n (negsuc zero) = Unit
+TaskOwner n (negsuc (suc k)) = ⊥
+
+abbrev pub Owned : ℕ → Entry → Type 0
+Owned n (task d) = TaskOwner n d
+Owned n (sem d a b m v) = Owner n d
+Owned n (queue d a c v) = Owner n d
+Owned n (region d a b z v) = Owner n d
+
+-- "semaphore and queue attributes other than 0; region attribute bits other than 1 (no-write) and 4 (execute)"
+abbrev pub Attribute : Entry → Type 0
+Attribute (task d) = Unit
+Attribute (sem d a b m v) = a ≡ 0
+Attribute (queue d a c v) = a ≡ 0
+Attribute (region d a b z v) = (((a ≡ 0) ⊎ (a ≡ 1)) ⊎ (a ≡ 4)) ⊎ (a ≡ 5)
+
+-- "1 <= max <= 65,535 and 0 <= start <= max; queue capacity 0 to 64; region size at least 1 and base + size at most 2^32"
+abbrev pub Numbers : Entry → Type 0
+Numbers (task d) = Unit
+Numbers (sem d a b m v) = ((1 ≤ m) × (m ≤ maxCount)) × (b ≤ m)
+Numbers (queue d a c v) = c ≤ maxCapacity
+Numbers (region d a b z v) = (1 ≤ z) × (b + z ≤ addressEnd)
+
+-- "region starting below the end of the region entered before it"
+abbrev pub Above : State → Entry → Type 0
+Above s (task d) = Unit
+Above s (sem d a b m v) = Unit
+Above s (queue d a c v) = Unit
+Above s (region d a b z v) = (l : List Region) (r : Region) → s .fixed .regions ≡ l ++ (r ∷ []) → r .base + r .size ≤ b
+
+-- "queue words above 512 in total"
+abbrev pub capacities : List Queue → ℕ
+capacities [] = 0
+capacities (q ∷ l) = q .capacity + capacities l
+
+abbrev pub Memory : State → Entry → Type 0
+Memory s (task d) = Unit
+Memory s (sem d a b m v) = Unit
+Memory s (queue d a c v) = capacities (s .queues) + c ≤ maxWords
+Memory s (region d a b z v) = Unit
+
+-- ---- the tests tell these facts
+room-tells : (s : State) (e : Entry) → Tells (hasRoom s e) (Room s e)
+room-tells s (task d) = lt-tells _ maxTasks
+room-tells s (sem d a b m v) = lt-tells _ maxSemaphores
+room-tells s (queue d a c v) = lt-tells _ maxQueues
+room-tells s (region d a b z v) = lt-tells _ maxRegions
+
+owner-tells : (n : ℕ) (d : ℤ) → Tells (owns n d) (Owner n d)
+owner-tells n (pos d) = and-tells (not-tells (eq-tells d 0)) (le-tells d n)
+owner-tells n (negsuc zero) = always-tells
+owner-tells n (negsuc (suc zero)) = always-tells
+owner-tells n (negsuc (suc (suc k))) = never-tells
+
+task-owner-tells : (n : ℕ) (d : ℤ) → Tells (ownsTask n d) (TaskOwner n d)
+task-owner-tells n (pos d) = and-tells (not-tells (eq-tells d 0)) (le-tells d n)
+task-owner-tells n (negsuc zero) = always-tells
+task-owner-tells n (negsuc (suc k)) = never-tells
+
+owned-tells : (n : ℕ) (e : Entry) → Tells (domainOk n e) (Owned n e)
+owned-tells n (task d) = task-owner-tells n d
+owned-tells n (sem d a b m v) = owner-tells n d
+owned-tells n (queue d a c v) = owner-tells n d
+owned-tells n (region d a b z v) = owner-tells n d
+
+attribute-tells : (e : Entry) → Tells (attributeOk e) (Attribute e)
+attribute-tells (task d) = always-tells
+attribute-tells (sem d a b m v) = eq-tells a 0
+attribute-tells (queue d a c v) = eq-tells a 0
+attribute-tells (region d a b z v) = or-tells (or-tells (or-tells (eq-tells a 0) (eq-tells a 1)) (eq-tells a 4)) (eq-tells a 5)
+
+numbers-tells : (e : Entry) → Tells (numbersOk e) (Numbers e)
+numbers-tells (task d) = always-tells
+numbers-tells (sem d a b m v) = and-tells (and-tells (le-tells 1 m) (le-tells m maxCount)) (le-tells b m)
+numbers-tells (queue d a c v) = le-tells c maxCapacity
+numbers-tells (region d a b z v) = and-tells (le-tells 1 z) (le-tells (b + z) addressEnd)
+
+last-end : (l : List Region) (r : Region) → lastEnd (l ++ (r ∷ [])) ≡ r .base + r .size
+last-end [] r = refl
+last-end (x ∷ []) r = refl
+last-end (x ∷ (y ∷ l)) r = last-end (y ∷ l) r
+
+above-tells : (s : State) (e : Entry) → Tells (placeOk s e) (Above s e)
+above-tells s (task d) = always-tells
+above-tells s (sem d a b m v) = always-tells
+above-tells s (queue d a c v) = always-tells
+above-tells s (region d a b z v) = record {
+  yes = λ h l r e. let k = le-tells (lastEnd (s .fixed .regions)) b .yes h in omega (arith, k, ap lastEnd e ∙ last-end l r);
+  no = λ h f. le-tells (lastEnd (s .fixed .regions)) b .no h (go (s .fixed .regions) f);
+}
+  where
+    go : (rs : List Region) → ((l : List Region) (r : Region) → rs ≡ l ++ (r ∷ []) → r .base + r .size ≤ b) → lastEnd rs ≤ b
+    go [] f = omega arith
+    go (x ∷ []) f = f [] x refl
+    go (x ∷ (y ∷ rs)) f = go (y ∷ rs) (λ l r e. f (x ∷ l) r (ap (λ (m : List Region). x ∷ m) e))
+
+used-is : (l : List Queue) → wordsUsed l ≡ capacities l
+used-is [] = refl
+used-is (q ∷ l) = ap (λ (n : ℕ). q .capacity + n) (used-is l)
+
+memory-tells : (s : State) (e : Entry) → Tells (memoryOk s e) (Memory s e)
+memory-tells s (task d) = always-tells
+memory-tells s (sem d a b m v) = always-tells
+memory-tells s (queue d a c v) = rw (used-is (s .queues)) (le-tells (capacities (s .queues) + c) maxWords)
+memory-tells s (region d a b z v) = always-tells
+
+-- ---- first hit wins
+module _ (s : State) (e : Entry) where
+  by-check : (o : Option Err) → checkEntry s e ≡ o → enter s e ≡ enterBy s e o
+  unfolding enter
+  by-check o h = ap (enterBy s e) h
+
+  code-by : (x : Err) → checkEntry s e ≡ some x → enter s e .answer .code ≡ error x
+  code-by x h = ap (λ (o : Out). o .answer .code) (by-check (some x) h)
+
+  -- what is left to check after each check
+  abbrev afterPlace : Option Err
+  afterPlace = refuseIf (not (memoryOk s e)) eNomem none
+
+  abbrev afterNumbers : Option Err
+  afterNumbers = refuseIf (not (placeOk s e)) eObj afterPlace
+
+  abbrev afterAttribute : Option Err
+  afterAttribute = refuseIf (not (numbersOk e)) ePar afterNumbers
+
+  abbrev afterDomain : Option Err
+  afterDomain = refuseIf (not (attributeOk e)) eRsatr afterAttribute
+
+  abbrev afterRoom : Option Err
+  afterRoom = refuseIf (not (domainOk (s .fixed .count) e)) eId afterDomain
+
+  abbrev afterClosed : Option Err
+  afterClosed = refuseIf (not (hasRoom s e)) eNoid afterRoom
+
+  -- "table already closed: E_CTX"
+  pub enter-ctx : s .fixed .closed ≡ true → enter s e .answer .code ≡ error eCtx
+  enter-ctx h = code-by eCtx (ap (λ (b : Bool). refuseIf b eCtx afterClosed) h)
+
+  module _ (o : s .fixed .closed ≡ false) where
+    past-ctx : checkEntry s e ≡ afterClosed
+    past-ctx = ap (λ (b : Bool). refuseIf b eCtx afterClosed) o
+
+    -- "kind full: E_NOID"
+    pub enter-noid : (Room s e → ⊥) → enter s e .answer .code ≡ error eNoid
+    enter-noid f = code-by eNoid (past-ctx ∙ stops-at (room-tells s e) eNoid afterRoom f)
+
+    module _ (r : Room s e) where
+      past-noid : checkEntry s e ≡ afterRoom
+      past-noid = past-ctx ∙ passes-on (room-tells s e) eNoid afterRoom r
+
+      -- "domain not -1, not -2 and not 1 to n, or -2 for a task: E_ID"
+      pub enter-id : (Owned (s .fixed .count) e → ⊥) → enter s e .answer .code ≡ error eId
+      enter-id f = code-by eId (past-noid ∙ stops-at (owned-tells (s .fixed .count) e) eId afterDomain f)
+
+      module _ (w : Owned (s .fixed .count) e) where
+        past-id : checkEntry s e ≡ afterDomain
+        past-id = past-noid ∙ passes-on (owned-tells (s .fixed .count) e) eId afterDomain w
+
+        -- "attribute: E_RSATR"
+        pub enter-rsatr : (Attribute e → ⊥) → enter s e .answer .code ≡ error eRsatr
+        enter-rsatr f = code-by eRsatr (past-id ∙ stops-at (attribute-tells e) eRsatr afterAttribute f)
+
+        module _ (a : Attribute e) where
+          past-rsatr : checkEntry s e ≡ afterAttribute
+          past-rsatr = past-id ∙ passes-on (attribute-tells e) eRsatr afterAttribute a
+
+          -- "numbers: E_PAR"
+          pub enter-par : (Numbers e → ⊥) → enter s e .answer .code ≡ error ePar
+          enter-par f = code-by ePar (past-rsatr ∙ stops-at (numbers-tells e) ePar afterNumbers f)
+
+          module _ (n : Numbers e) where
+            past-par : checkEntry s e ≡ afterNumbers
+            past-par = past-rsatr ∙ passes-on (numbers-tells e) ePar afterNumbers n
+
+            -- "region starting below the end of the region entered before it: E_OBJ"
+            pub enter-obj : (Above s e → ⊥) → enter s e .answer .code ≡ error eObj
+            enter-obj f = code-by eObj (past-par ∙ stops-at (above-tells s e) eObj afterPlace f)
+
+            module _ (u : Above s e) where
+              past-obj : checkEntry s e ≡ afterPlace
+              past-obj = past-par ∙ passes-on (above-tells s e) eObj afterPlace u
+
+              -- "queue words above 512 in total: E_NOMEM"
+              pub enter-nomem : (Memory s e → ⊥) → enter s e .answer .code ≡ error eNomem
+              enter-nomem f = code-by eNomem (past-obj ∙ stops-at (memory-tells s e) eNomem none f)
+
+              taken-by : Memory s e → enter s e ≡ enterBy s e none
+              taken-by m = by-check none (past-obj ∙ passes-on (memory-tells s e) eNomem none m)
+
+-- ---- what is taken
+pub record Fits (s : State) (e : Entry) : Type 0 where
+  pub opened : s .fixed .closed ≡ false
+  pub room : Room s e
+  pub owned : Owned (s .fixed .count) e
+  pub attribute : Attribute e
+  pub numbers : Numbers e
+  pub above : Above s e
+  pub memory : Memory s e
+
+taken : (s : State) (e : Entry) → Fits s e → enter s e ≡ enterBy s e none
+taken s e f = taken-by s e (f .opened) (f .room) (f .owned) (f .attribute) (f .numbers) (f .above) (f .memory)
+
+-- "Whatever is taken answers E_OK"
+pub enter-ok : (s : State) (e : Entry) → Fits s e → enter s e .answer .code ≡ ok
+enter-ok s e f = ap (λ (o : Out). o .answer .code) (taken s e f)
+
+-- "an entry is kept as given, last of its kind": the list l′ is l and one more
+pub record OneMore {A : Type 0} (d : A) (l l′ : List A) (x : A) : Type 0 where
+  pub last : at d l′ (suc (length l)) ≡ x
+  pub kept : (i : ℕ) → i ≤ length l → at d l′ i ≡ at d l i
+  pub more : length l′ ≡ suc (length l)
+
+module _ {A : Type 0} where
+  snoc-last : (d : A) (l : List A) (x : A) → at d (l ++ (x ∷ [])) (suc (length l)) ≡ x
+  snoc-last d [] x = refl
+  snoc-last d (y ∷ l) x = snoc-last d l x
+
+  snoc-kept : (d : A) (l : List A) (x : A) (i : ℕ) → i ≤ length l → at d (l ++ (x ∷ [])) i ≡ at d l i
+  snoc-kept d l x zero h = refl
+  snoc-kept d [] x (suc i) h = absurd (omega arith)
+  snoc-kept d (y ∷ l) x (suc zero) h = refl
+  snoc-kept d (y ∷ l) x (suc (suc i)) h = snoc-kept d l x (suc i) (omega arith)
+
+  one-more : (d : A) (l : List A) (x : A) → OneMore d l (l ++ (x ∷ [])) x
+  one-more d l x = record { last = snoc-last d l x; kept = snoc-kept d l x; more = length-append l (x ∷ []) ∙ add-one (length l) }
+
+-- "and nothing else changes"
+pub record TaskEntered (s s′ : State) (d : ℤ) : Type 0 where
+  pub tasks : OneMore (pos zero) (s .fixed .domains) (s′ .fixed .domains) d
+  pub closed : s′ .fixed .closed ≡ s .fixed .closed
+  pub count : s′ .fixed .count ≡ s .fixed .count
+  pub regions : s′ .fixed .regions ≡ s .fixed .regions
+  pub waits : s′ .waits ≡ s .waits
+  pub sems : s′ .sems ≡ s .sems
+  pub queues : s′ .queues ≡ s .queues
+
+pub task-entered : (s : State) (d : ℤ) → Fits s (task d) → TaskEntered s (enter s (task d) .state) d
+task-entered s d f = subst (λ (o : Out). TaskEntered s (o .state) d) (sym (taken s (task d) f))
+    (record { tasks = one-more (pos zero) (s .fixed .domains) d; closed = refl; count = refl; regions = refl; waits = refl; sems = refl; queues = refl })
+
+-- "semaphores at their start count"
+pub record SemEntered (s s′ : State) (x : Sem) : Type 0 where
+  pub sems : OneMore noSem (s .sems) (s′ .sems) x
+  pub fixed : s′ .fixed ≡ s .fixed
+  pub waits : s′ .waits ≡ s .waits
+  pub queues : s′ .queues ≡ s .queues
+
+pub sem-entered : (s : State) (d : ℤ) (a start max : ℕ) (v : Choice) → Fits s (sem d a start max v)
+    → SemEntered s (enter s (sem d a start max v) .state) (record { domain = d; attribute = a; max = max; count = start; vector = resolved d v })
+sem-entered s d a start max v f = subst (λ (o : Out). SemEntered s (o .state) (record { domain = d; attribute = a; max = max; count = start; vector = resolved d v })) (sym (taken s (sem d a start max v) f))
+    (record { sems = one-more noSem (s .sems) _; fixed = refl; waits = refl; queues = refl })
+
+-- "queues empty"
+pub record QueueEntered (s s′ : State) (x : Queue) : Type 0 where
+  pub queues : OneMore noQueue (s .queues) (s′ .queues) x
+  pub fixed : s′ .fixed ≡ s .fixed
+  pub waits : s′ .waits ≡ s .waits
+  pub sems : s′ .sems ≡ s .sems
+
+pub queue-entered : (s : State) (d : ℤ) (a c : ℕ) (v : Choice) → Fits s (queue d a c v)
+    → QueueEntered s (enter s (queue d a c v) .state) (record { domain = d; attribute = a; capacity = c; buffer = []; vector = resolved d v })
+queue-entered s d a c v f = subst (λ (o : Out). QueueEntered s (o .state) (record { domain = d; attribute = a; capacity = c; buffer = []; vector = resolved d v })) (sym (taken s (queue d a c v) f))
+    (record { queues = one-more noQueue (s .queues) _; fixed = refl; waits = refl; sems = refl })
+
+pub record RegionEntered (s s′ : State) (x : Region) : Type 0 where
+  pub regions : OneMore noRegion (s .fixed .regions) (s′ .fixed .regions) x
+  pub closed : s′ .fixed .closed ≡ s .fixed .closed
+  pub count : s′ .fixed .count ≡ s .fixed .count
+  pub domains : s′ .fixed .domains ≡ s .fixed .domains
+  pub waits : s′ .waits ≡ s .waits
+  pub sems : s′ .sems ≡ s .sems
+  pub queues : s′ .queues ≡ s .queues
+
+pub region-entered : (s : State) (d : ℤ) (a b z : ℕ) (v : Choice) → Fits s (region d a b z v)
+    → RegionEntered s (enter s (region d a b z v) .state) (record { domain = d; attribute = a; base = b; size = z; vector = resolved d v })
+region-entered s d a b z v f = subst (λ (o : Out). RegionEntered s (o .state) (record { domain = d; attribute = a; base = b; size = z; vector = resolved d v })) (sym (taken s (region d a b z v) f))
+    (record { regions = one-more noRegion (s .fixed .regions) _; closed = refl; count = refl; domains = refl; waits = refl; sems = refl; queues = refl })
+
+-- ---- "closing only closes"
+pub record Closed (s s′ : State) : Type 0 where
+  pub closed : s′ .fixed .closed ≡ true
+  pub count : s′ .fixed .count ≡ s .fixed .count
+  pub domains : s′ .fixed .domains ≡ s .fixed .domains
+  pub regions : s′ .fixed .regions ≡ s .fixed .regions
+  pub waits : s′ .waits ≡ s .waits
+  pub sems : s′ .sems ≡ s .sems
+  pub queues : s′ .queues ≡ s .queues
+
+pub close-only : (s : State) → s .fixed .closed ≡ false → (close s .answer .code ≡ ok) × Closed s (close s .state)
+unfolding close
+close-only s h = subst (λ (b : Bool). (closeBy b s .answer .code ≡ ok) × Closed s (closeBy b s .state)) (sym h)
+    (refl, record { closed = refl; count = refl; domains = refl; regions = refl; waits = refl; sems = refl; queues = refl })
+
+-- "closing it again too: E_CTX"
+pub close-again : (s : State) → s .fixed .closed ≡ true → close s .answer .code ≡ error eCtx
+unfolding close
+close-again s h = ap (λ (b : Bool). closeBy b s .answer .code) h
+
+-- ---- "A fresh state takes n; n outside 0 to 32 is E_PAR and gives the empty open state for n = 0"
+pub record Empty (s : State) (n : ℕ) : Type 0 where
+  pub closed : s .fixed .closed ≡ false
+  pub count : s .fixed .count ≡ n
+  pub domains : s .fixed .domains ≡ []
+  pub regions : s .fixed .regions ≡ []
+  pub waits : s .waits ≡ []
+  pub sems : s .sems ≡ []
+  pub queues : s .queues ≡ []
+
+pub fresh-takes : (n : ℕ) → n ≤ maxDomains → (fresh (pos n) .answer .code ≡ ok) × Empty (fresh (pos n) .state) n
+unfolding fresh
+fresh-takes n h = subst (λ (b : Bool). (freshBy b n .answer .code ≡ ok) × Empty (freshBy b n .state) n) (sym (holds (le-tells n maxDomains) h))
+    (refl, record { closed = refl; count = refl; domains = refl; regions = refl; waits = refl; sems = refl; queues = refl })
+
+pub fresh-above : (n : ℕ) → maxDomains < n → (fresh (pos n) .answer .code ≡ error ePar) × Empty (fresh (pos n) .state) 0
+unfolding fresh
+fresh-above n h = subst (λ (b : Bool). (freshBy b n .answer .code ≡ error ePar) × Empty (freshBy b n .state) 0) (sym (fails (le-tells n maxDomains) (λ z. omega arith)))
+    (refl, record { closed = refl; count = refl; domains = refl; regions = refl; waits = refl; sems = refl; queues = refl })
+
+pub fresh-below : (n : ℕ) → (fresh (negsuc n) .answer .code ≡ error ePar) × Empty (fresh (negsuc n) .state) 0
+unfolding fresh
+fresh-below n = (refl, record { closed = refl; count = refl; domains = refl; regions = refl; waits = refl; sems = refl; queues = refl })

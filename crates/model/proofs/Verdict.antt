@@ -1,0 +1,201 @@
+-- The memory verdict (document 01): its sentences, each by plain facts of the table
+use mathlib.Core.Path.{_≡_, refl, sym, ap, _∙_, subst}
+use mathlib.Core.Logic.{_≢_}
+use mathlib.Core.Bool.{Bool, true, false, not}
+use mathlib.Core.List.{List, [], _∷_, _++_}
+use mathlib.Core.Option.{Option, none, some}
+use Prim.Native.Nat.{ℕ, zero, suc, _+_, _≤_, _<_, _/_, _%_}
+use native.Mathlib.Omega.{arith}
+use native.Mathlib.Nat.{div-one}
+use lib.IntN.{ℤ, pos, negsuc}
+use Rattle.access.specs.Patterns.{admitted, bitAt}
+use Rattle.itron.specs.Codes.{eCtx, eId, ePar, eNoexs, eObj, eMacv}
+use Rattle.itron.specs.Limits.{addressEnd}
+use Rattle.model.specs.Answers.{refuseIf}
+use Rattle.model.specs.Lists.{All}
+use Rattle.model.specs.State.{Region, State}
+use Rattle.model.specs.Regions.{mayRead, grants, allows, holds, orElse, holder, judgeIn, areaOk, judge}
+use Rattle.model.specs.Verdict.{asks, verdict}
+use Rattle.model.proofs.Lists.{no-both}
+use Rattle.model.proofs.Tests.{Tells, le-tells, lt-tells, eq-tells, true-tells, always-tells, never-tells, and-tells, not-tells, passes-on, stops-at, passed-by}
+use Rattle.model.proofs.Tests as Tests
+
+-- ---- what is asked
+-- "domain not -1 and not 1 to n"
+abbrev pub Asker : ℕ → ℤ → Type 0
+Asker n (pos d) = (d ≢ 0) × (d ≤ n)
+Asker n (negsuc zero) = Unit
+Asker n (negsuc (suc k)) = ⊥
+
+-- "size 0, unknown or no wish, base + size above 2^32"
+abbrev pub Area : ℕ → ℕ → ℕ → Type 0
+Area base size w = ((1 ≤ size) × ((1 ≤ w) × (w ≤ 7))) × (base + size ≤ addressEnd)
+
+-- "write (bit value 1), read (2), execute (4)"
+abbrev pub Writes : ℕ → Type 0
+Writes w = w % 2 ≡ 1
+
+abbrev pub Reads : ℕ → Type 0
+Reads w = w / 2 % 2 ≡ 1
+
+abbrev pub Executes : ℕ → Type 0
+Executes w = w / 4 % 2 ≡ 1
+
+-- the region attributes: "1 (no-write) and 4 (execute)"
+abbrev pub NoWrite : Region → Type 0
+NoWrite r = r .attribute % 2 ≡ 1
+
+abbrev pub Executable : Region → Type 0
+Executable r = r .attribute / 4 % 2 ≡ 1
+
+-- "Write follows normal operation 1; read and execute follow normal operation 2. No-write denies writing to every domain .. Execute also needs the
+-- execute attribute."
+abbrev pub Granted : Region → ℤ → ℕ → Type 0
+Granted r d w =
+    ((Writes w → (NoWrite r → ⊥) × (admitted (r .vector .normal1) d ≡ true)) × (Reads w → admitted (r .vector .normal2) d ≡ true))
+    × (Executes w → Executable r × (admitted (r .vector .normal2) d ≡ true))
+
+-- ---- the region that holds an address
+abbrev pub Holds : ℕ → Region → Type 0
+Holds a r = (r .base ≤ a) × (a < r .base + r .size)
+
+pub record At (rs : List Region) (a : ℕ) (r : Region) : Type 0 where
+  pub before : List Region
+  pub behind : List Region
+  pub split : rs ≡ before ++ (r ∷ behind)
+  pub others : All (λ (x : Region). Holds a x → ⊥) before
+  pub here : Holds a r
+
+-- ---- the tests tell these facts
+asker-tells : (n : ℕ) (d : ℤ) → Tells (asks n d) (Asker n d)
+asker-tells n (pos d) = and-tells (not-tells (eq-tells d 0)) (le-tells d n)
+asker-tells n (negsuc zero) = always-tells
+asker-tells n (negsuc (suc k)) = never-tells
+
+area-tells : (base size w : ℕ) → Tells (areaOk base size w) (Area base size w)
+area-tells base size w = and-tells (and-tells (le-tells 1 size) (and-tells (le-tells 1 w) (le-tells w 7))) (le-tells (base + size) addressEnd)
+
+holds-tells : (a : ℕ) (r : Region) → Tells (holds a r) (Holds a r)
+holds-tells a r = and-tells (le-tells (r .base) a) (lt-tells a (r .base + r .size))
+
+bit-tells : (w : ℕ) → Tells (bitAt w 0) (w % 2 ≡ 1)
+bit-tells w = rw div-one (eq-tells (w % 2) 1)
+
+if-tells : {a b : Bool} {P Q : Type 0} → Tells a P → Tells b Q → Tells (grants a b) (P → Q)
+if-tells {a} {b} {P} {Q} f g = record { yes = λ h p. g .yes (sym (ap (λ (c : Bool). grants c b) (Tests.holds f p)) ∙ h); no = λ h k. go a refl h k }
+  where
+    go : (c : Bool) → a ≡ c → grants c b ≡ false → (P → Q) → ⊥
+    go true e h k = g .no h (k (f .yes e))
+    go false e h k = no-both {b = true} refl h
+
+allows-tells : (r : Region) (d : ℤ) (w : ℕ) → Tells (allows r d w) (Granted r d w)
+allows-tells r d w =
+    and-tells
+    (and-tells (if-tells (bit-tells w) (and-tells (not-tells (bit-tells (r .attribute))) (true-tells (admitted (r .vector .normal1) d)))) (if-tells (eq-tells (w / 2 % 2) 1) (true-tells (mayRead r d))))
+    (if-tells (eq-tells (w / 4 % 2) 1) (and-tells (eq-tells (r .attribute / 4 % 2) 1) (true-tells (admitted (r .vector .normal2) d))))
+
+holder-at : (rs : List Region) (a : ℕ) (r : Region) → At rs a r → holder rs a ≡ some r
+unfolding holder
+holder-at rs a r h = ap (λ (l : List Region). holder l a) (h .split) ∙ go (h .before) (h .others)
+  where
+    go : (l : List Region) → All (λ (x : Region). Holds a x → ⊥) l → holder (l ++ (r ∷ h .behind)) a ≡ some r
+    go [] k = ap (λ (b : Bool). orElse b r (holder (h .behind) a)) (Tests.holds (holds-tells a r) (h .here))
+    go (x ∷ l) k = ap (λ (b : Bool). orElse b x (holder (l ++ (r ∷ h .behind)) a)) (Tests.fails (holds-tells a x) (k .0)) ∙ go l (k .1)
+
+holder-none : (rs : List Region) (a : ℕ) → All (λ (x : Region). Holds a x → ⊥) rs → holder rs a ≡ none
+unfolding holder
+holder-none [] a k = refl
+holder-none (x ∷ rs) a k = ap (λ (b : Bool). orElse b x (holder rs a)) (Tests.fails (holds-tells a x) (k .0)) ∙ holder-none rs a (k .1)
+
+-- ---- the verdict on a table s, asked for a domain, an area and wishes; first hit wins
+module _ (s : State) (d : ℤ) (base size w : ℕ) where
+  -- "table not closed E_CTX"
+  pub verdict-ctx : s .fixed .closed ≡ false → verdict s d base size w ≡ some eCtx
+  unfolding verdict
+  verdict-ctx h = stops-at (true-tells (s .fixed .closed)) _ _ (λ k. no-both k h)
+
+  module _ (c : s .fixed .closed ≡ true) where
+    -- "domain not -1 and not 1 to n E_ID"
+    pub verdict-id : (Asker (s .fixed .count) d → ⊥) → verdict s d base size w ≡ some eId
+    unfolding verdict
+    verdict-id f = passes-on (true-tells (s .fixed .closed)) _ _ c ∙ stops-at (asker-tells (s .fixed .count) d) _ _ f
+
+    module _ (k : Asker (s .fixed .count) d) where
+      -- "size 0, unknown or no wish, base + size above 2^32 E_PAR"
+      pub verdict-par : (Area base size w → ⊥) → verdict s d base size w ≡ some ePar
+      unfolding verdict judge
+      verdict-par f = passes-on (true-tells (s .fixed .closed)) _ _ c ∙ passes-on (asker-tells (s .fixed .count) d) _ _ k ∙ stops-at (area-tells base size w) _ _ f
+
+      module _ (a : Area base size w) where
+        by-holder : (o : Option Region) → holder (s .fixed .regions) base ≡ o → verdict s d base size w ≡ judgeIn o d base size w
+        unfolding verdict judge
+        by-holder o h =
+            passes-on (true-tells (s .fixed .closed)) _ _ c
+            ∙ passes-on (asker-tells (s .fixed .count) d) _ _ k
+            ∙ passes-on (area-tells base size w) _ _ a
+            ∙ ap (λ (x : Option Region). judgeIn x d base size w) h
+
+        -- "no region holds the base E_NOEXS"
+        pub verdict-noexs : All (λ (x : Region). Holds base x → ⊥) (s .fixed .regions) → verdict s d base size w ≡ some eNoexs
+        verdict-noexs h = by-holder none (holder-none (s .fixed .regions) base h)
+
+        module _ (r : Region) (h : At (s .fixed .regions) base r) where
+          -- "the area leaves that region E_OBJ"
+          pub verdict-obj : r .base + r .size < base + size → verdict s d base size w ≡ some eObj
+          verdict-obj l = by-holder (some r) (holder-at _ base r h) ∙ stops-at (le-tells (base + size) (r .base + r .size)) _ _ (λ z. omega arith)
+
+          module _ (l : base + size ≤ r .base + r .size) where
+            -- "a wish denied E_MACV"
+            pub verdict-macv : (Granted r d w → ⊥) → verdict s d base size w ≡ some eMacv
+            verdict-macv f = by-holder (some r) (holder-at _ base r h) ∙ passes-on (le-tells (base + size) (r .base + r .size)) _ _ l ∙ stops-at (allows-tells r d w) _ _ f
+
+            -- and nothing else is
+            pub verdict-ok : Granted r d w → verdict s d base size w ≡ none
+            verdict-ok g = by-holder (some r) (holder-at _ base r h) ∙ passes-on (le-tells (base + size) (r .base + r .size)) _ _ l ∙ passes-on (allows-tells r d w) _ _ g
+
+            -- "No-write denies writing to every domain, the kernel's too, and its normal operation 1 pattern is unused"
+            pub no-write-denies-all : NoWrite r → Writes w → verdict s d base size w ≡ some eMacv
+            no-write-denies-all n v = verdict-macv (λ g. g .0 .0 v .0 n)
+
+-- ---- E_OK only where one region holds the whole area and grants each wish
+pub record Permitted (s : State) (d : ℤ) (base size w : ℕ) : Type 0 where
+  pub closed : s .fixed .closed ≡ true
+  pub asker : Asker (s .fixed .count) d
+  pub area : Area base size w
+  pub region : Region
+  pub at : At (s .fixed .regions) base region
+  pub inside : base + size ≤ region .base + region .size
+  pub granted : Granted region d w
+
+holder-is : (rs : List Region) (a : ℕ) (r : Region) → holder rs a ≡ some r → At rs a r
+unfolding holder
+holder-is [] a r h = absurd (let z : _≡_ {A = ℕ} 0 1 = cc in omega arith)
+holder-is (x ∷ rs) a r h = go (holds a x) refl (holder-is rs a r) h
+  where
+    go : (b : Bool) → holds a x ≡ b → (holder rs a ≡ some r → At rs a r) → orElse b x (holder rs a) ≡ some r → At (x ∷ rs) a r
+    go true e f k =
+        let q : x ≡ r = cc in
+        record { before = []; behind = rs; split = ap (λ (y : Region). y ∷ rs) q; others = tt; here = subst (λ (y : Region). Holds a y) q (holds-tells a x .yes e) }
+    go false e f k =
+        let i = f k in
+        record { before = x ∷ i .before; behind = i .behind; split = ap (λ (l : List Region). x ∷ l) (i .split); others = (holds-tells a x .no e, i .others); here = i .here }
+
+pub ok-only : (s : State) (d : ℤ) (base size w : ℕ) → verdict s d base size w ≡ none → Permitted s d base size w
+unfolding verdict judge
+ok-only s d base size w h = go (holder (s .fixed .regions) base) refl (h₃ .1)
+  where
+    h₁ : (s .fixed .closed ≡ true) × (refuseIf (not (asks (s .fixed .count) d)) eId (judge (s .fixed .regions) d base size w) ≡ none)
+    h₁ = passed-by (true-tells (s .fixed .closed)) _ _ h
+
+    h₂ : Asker (s .fixed .count) d × (judge (s .fixed .regions) d base size w ≡ none)
+    h₂ = passed-by (asker-tells (s .fixed .count) d) _ _ (h₁ .1)
+
+    h₃ : Area base size w × (judgeIn (holder (s .fixed .regions) base) d base size w ≡ none)
+    h₃ = passed-by (area-tells base size w) _ _ (h₂ .1)
+
+    go : (o : Option Region) → holder (s .fixed .regions) base ≡ o → judgeIn o d base size w ≡ none → Permitted s d base size w
+    go none e k = absurd (let z : _≡_ {A = ℕ} 0 1 = cc in omega arith)
+    go (some r) e k =
+        let p = passed-by (le-tells (base + size) (r .base + r .size)) eObj _ k in
+        let g = passed-by (allows-tells r d w) eMacv none (p .1) in
+        record { closed = h₁ .0; asker = h₂ .0; area = h₃ .0; region = r; at = holder-is (s .fixed .regions) base r e; inside = p .0; granted = g .0 }
