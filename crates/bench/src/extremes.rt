@@ -28,22 +28,22 @@ const U32_MAX: u32 = 4_294_967_295;
 fn everywhere(unclosed: State, table: State, number: i32)
     requires { ⌜ Valid unclosed × Valid table ⌝ }
 {
-    fresh(number);
-    let mut s = add_task(unclosed, number);
+    let mut s = fresh(number);
+    s = add_task(unclosed, number);
     s = add_semaphore(s, number, 0, 0, 1, Choice::Default);
     s = add_queue(s, number, 0, 1, Choice::Default);
-    add_region(s, number, 0, 0, 1, Choice::Default);
+    s = add_region(s, number, 0, 0, 1, Choice::Default);
     s = pol_sem(table, number, 1);
     s = pol_sem(s, 1, number);
     s = prcv_dtq(s, 1, number);
     prb_mem(s, number, 0x1000, 1, READ);
 }
 
-fn unsigned_entries(unclosed: State)
-    requires { ⌜ Valid unclosed ⌝ }
+fn unsigned_entries(mut s: State)
+    requires { ⌜ Valid s ⌝ }
 {
     let shared = Choice::Given(Vector::SHARED);
-    let mut s = add_semaphore(unclosed, NO_DOMAIN, U32_MAX, 0, 1, Choice::Default);
+    s = add_semaphore(s, NO_DOMAIN, U32_MAX, 0, 1, Choice::Default);
     s = add_semaphore(s, NO_DOMAIN, 0, 0, U32_MAX, Choice::Default);
     s = add_semaphore(s, NO_DOMAIN, 0, U32_MAX, 1, Choice::Default);
     s = add_semaphore(s, NO_DOMAIN, 0, 0, 1, shared);
@@ -52,13 +52,13 @@ fn unsigned_entries(unclosed: State)
     s = add_queue(s, NO_DOMAIN, 0, 64, shared);
     s = add_region(s, NO_DOMAIN, U32_MAX, 0, 1, Choice::Default);
     s = add_region(s, NO_DOMAIN, 0, U32_MAX, U32_MAX, Choice::Default);
-    add_region(s, NO_DOMAIN, 0, U32_MAX, 1, shared);
+    s = add_region(s, NO_DOMAIN, 0, U32_MAX, 1, shared);
 }
 
-fn unsigned_calls(table: State)
-    requires { ⌜ Valid table ⌝ }
+fn unsigned_calls(mut s: State)
+    requires { ⌜ Valid s ⌝ }
 {
-    let mut s = sac_sem(table, 3, 1, Vector::SHARED);
+    s = sac_sem(s, 3, 1, Vector::SHARED);
     s = ref_sem(s, 2, 1);
     s = psnd_dtq(s, 1, 1, U32_MAX);
     s = prcv_dtq(s, 1, 1);

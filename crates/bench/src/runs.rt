@@ -17,11 +17,11 @@ use kernel::state::State;
 use regions::flag::READ;
 use regions::flag::WRITE;
 
-pub fn s(table: State)
-    requires { ⌜ Valid table ⌝ }
+pub fn s(mut s: State)
+    requires { ⌜ Valid s ⌝ }
 {
     heading(b"S");
-    let mut s = pol_sem(table, 1, 1);
+    s = pol_sem(s, 1, 1);
     s = pol_sem(s, 1, 1);
     s = wai_sem(s, 1, 1);
     s = sig_sem(s, 1, 1);
@@ -33,14 +33,14 @@ pub fn s(table: State)
     s = sig_sem(s, 2, 1);
     s = sig_sem(s, 2, 1);
     s = sig_sem(s, 2, 1);
-    ref_sem(s, 1, 1);
+    s = ref_sem(s, 1, 1);
 }
 
-pub fn q(table: State)
-    requires { ⌜ Valid table ⌝ }
+pub fn q(mut s: State)
+    requires { ⌜ Valid s ⌝ }
 {
     heading(b"Q");
-    let mut s = rcv_dtq(table, 2, 1);
+    s = rcv_dtq(s, 2, 1);
     s = psnd_dtq(s, 1, 1, 700);
     s = psnd_dtq(s, 1, 1, 701);
     s = psnd_dtq(s, 1, 1, 702);
@@ -52,15 +52,15 @@ pub fn q(table: State)
     // What is left in queue 1 comes out in order.
     s = prcv_dtq(s, 4, 1);
     s = prcv_dtq(s, 4, 1);
-    prcv_dtq(s, 4, 1);
+    s = prcv_dtq(s, 4, 1);
 }
 
 // The numbers of semaphores that no table has, and of those that this one has not; also for the kernel's task 3.
-pub fn numbers(table: State)
-    requires { ⌜ Valid table ⌝ }
+pub fn numbers(mut s: State)
+    requires { ⌜ Valid s ⌝ }
 {
     heading(b"Numbers");
-    let mut s = pol_sem(table, 1, -1);
+    s = pol_sem(s, 1, -1);
     s = pol_sem(s, 1, 0);
     s = pol_sem(s, 1, 33);
     s = pol_sem(s, 1, 2);
@@ -69,7 +69,7 @@ pub fn numbers(table: State)
     s = pol_sem(s, 3, 0);
     s = pol_sem(s, 3, 33);
     s = pol_sem(s, 3, 2);
-    pol_sem(s, 3, 32);
+    s = pol_sem(s, 3, 32);
 }
 
 pub fn regions(table: State)

@@ -42,11 +42,11 @@ pub fn closed() -> State
 }
 
 // Four queues of the largest capacity: half of all words.
-fn four_queues(table: State) -> State
-    requires { ⌜ Valid table ⌝ }
+fn four_queues(mut s: State) -> State
+    requires { ⌜ Valid s ⌝ }
     ensures { λ r. ⌜ Valid r ⌝ }
 {
-    let mut s = add_queue(table, NO_DOMAIN, 0, 64, Choice::Default);
+    s = add_queue(s, NO_DOMAIN, 0, 64, Choice::Default);
     s = add_queue(s, NO_DOMAIN, 0, 64, Choice::Default);
     s = add_queue(s, NO_DOMAIN, 0, 64, Choice::Default);
     add_queue(s, NO_DOMAIN, 0, 64, Choice::Default)
@@ -54,13 +54,13 @@ fn four_queues(table: State) -> State
 
 pub fn limits() {
     heading(b"Table");
-    fresh(33);
-    let mut s = fresh(32);
+    let mut s = fresh(33);
+    s = fresh(32);
     s = add_semaphore(s, NO_DOMAIN, 0, 0, 65_535, Choice::Default);
     s = add_semaphore(s, NO_DOMAIN, 0, 0, 65_536, Choice::Default);
     s = add_semaphore(s, NO_DOMAIN, 0, 2, 1, Choice::Default);
     s = four_queues(s);
     s = four_queues(s);
     s = add_queue(s, NO_DOMAIN, 0, 1, Choice::Default);
-    add_queue(s, NO_DOMAIN, 0, 0, Choice::Default);
+    s = add_queue(s, NO_DOMAIN, 0, 0, Choice::Default);
 }
