@@ -7,6 +7,9 @@ use crate::verb::verb_of;
 use crate::word;
 use access::vector::Choice;
 use access::vector::Vector;
+use dataqueue::entry::QueueEntry;
+use regions::entry::RegionEntry;
+use semaphore::entry::SemaphoreEntry;
 
 pub enum Command {
     // No word: nothing to do and nothing to print.
@@ -29,15 +32,11 @@ pub enum Command {
     Dump,
 }
 
-// An entry's numbers, in the order of its line.
 pub enum Entry {
     Task(i32),
-    // Domain, attribute, start, max.
-    Semaphore(i32, u32, u32, u32, Choice),
-    // Domain, attribute, capacity.
-    Queue(i32, u32, u32, Choice),
-    // Domain, attribute, base, size.
-    Region(i32, u32, u32, u32, Choice),
+    Semaphore(SemaphoreEntry),
+    Queue(QueueEntry),
+    Region(RegionEntry),
 }
 
 pub enum SemaphoreCall {
@@ -67,29 +66,34 @@ fn choice(numbers: Numbers, given: bool, after: usize) -> Choice {
 
 fn semaphore_entry(numbers: Numbers, given: bool) -> Command {
     let vector = choice(numbers, given, 3);
-    Command::Entry(Entry::Semaphore(
-        numbers.first,
-        numbers.plain(0),
-        numbers.plain(1),
-        numbers.plain(2),
+    Command::Entry(Entry::Semaphore(SemaphoreEntry {
+        domain: numbers.first,
+        attribute: numbers.plain(0),
+        start: numbers.plain(1),
+        max: numbers.plain(2),
         vector,
-    ))
+    }))
 }
 
 fn queue_entry(numbers: Numbers, given: bool) -> Command {
     let vector = choice(numbers, given, 2);
-    Command::Entry(Entry::Queue(numbers.first, numbers.plain(0), numbers.plain(1), vector))
+    Command::Entry(Entry::Queue(QueueEntry {
+        domain: numbers.first,
+        attribute: numbers.plain(0),
+        capacity: numbers.plain(1),
+        vector,
+    }))
 }
 
 fn region_entry(numbers: Numbers, given: bool) -> Command {
     let vector = choice(numbers, given, 3);
-    Command::Entry(Entry::Region(
-        numbers.first,
-        numbers.plain(0),
-        numbers.plain(1),
-        numbers.plain(2),
+    Command::Entry(Entry::Region(RegionEntry {
+        domain: numbers.first,
+        attribute: numbers.plain(0),
+        base: numbers.plain(1),
+        size: numbers.plain(2),
         vector,
-    ))
+    }))
 }
 
 fn probe(numbers: Numbers) -> Command {

@@ -6,11 +6,9 @@ use command::parse::Command;
 use command::parse::Entry;
 use command::parse::QueueCall;
 use command::parse::SemaphoreCall;
-use dataqueue::entry::QueueEntry;
 use kernel::state::Answer;
 use kernel::state::Entered;
 use kernel::state::State;
-use regions::entry::RegionEntry;
 use report::names::put_code;
 use report::object::LF;
 use report::output::put;
@@ -19,7 +17,6 @@ use report::show::put_answer;
 use report::show::put_audit;
 use report::show::put_queue_report;
 use report::show::put_semaphore_report;
-use semaphore::entry::SemaphoreEntry;
 
 // The state after a command, and how many bytes the block of output has then.
 pub struct Made {
@@ -62,35 +59,9 @@ fn enter(out: &mut [u8; 4096], at: usize, state: State, entry: Entry) -> Made
 {
     match entry {
         Entry::Task(domain) => entered(out, at, state.add_task(domain)),
-        Entry::Semaphore(domain, attribute, start, max, vector) => {
-            let entry = SemaphoreEntry {
-                domain,
-                attribute,
-                start,
-                max,
-                vector,
-            };
-            entered(out, at, state.add_semaphore(entry))
-        }
-        Entry::Queue(domain, attribute, capacity, vector) => {
-            let entry = QueueEntry {
-                domain,
-                attribute,
-                capacity,
-                vector,
-            };
-            entered(out, at, state.add_queue(entry))
-        }
-        Entry::Region(domain, attribute, base, size, vector) => {
-            let entry = RegionEntry {
-                domain,
-                attribute,
-                base,
-                size,
-                vector,
-            };
-            entered(out, at, state.add_region(entry))
-        }
+        Entry::Semaphore(given) => entered(out, at, state.add_semaphore(given)),
+        Entry::Queue(given) => entered(out, at, state.add_queue(given)),
+        Entry::Region(given) => entered(out, at, state.add_region(given)),
     }
 }
 
