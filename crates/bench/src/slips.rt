@@ -2,7 +2,6 @@
 ghost use Rattle.kernel.specs.Valid.{Valid};
 use crate::calls::pol_sem;
 use crate::calls::rcv_dtq;
-use crate::calls::ref_dtq;
 use crate::calls::ref_sem;
 use crate::calls::sac_dtq;
 use crate::calls::sac_sem;
@@ -69,7 +68,6 @@ fn capacity_zero_waits(mut s: State)
 {
     heading(b"Slip: a send on a queue of capacity 0 is refused");
     s = snd_dtq(s, 1, 2, 5);
-    s = ref_dtq(s, 2, 2);
     s = rcv_dtq(s, 2, 2);
 }
 
