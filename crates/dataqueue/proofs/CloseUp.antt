@@ -18,6 +18,14 @@ module _ {A : Type 0} where
       rw (add-one, drop-cons o i d h, take-suc r i d (omega arith), q, append-assoc)
       (set-at (take i r) (getD o i d) (drop (suc i) o) (getD r i d) i (length-take-le i r (omega arith)))
 
+  -- from i on the entries are still those of o
+  pub fill-ahead : (r o : List A) (i j : ℕ) (d : A) → i ≤ length r → i ≤ length o → i ≤ j → getD (filled r o i) j d ≡ getD o j d
+  fill-ahead r o zero j d h k l = refl
+  fill-ahead [] o (suc i) j d h k l = absurd (omega arith)
+  fill-ahead (x ∷ r) [] (suc i) j d h k l = absurd (omega arith)
+  fill-ahead (x ∷ r) (y ∷ o) (suc i) zero d h k l = absurd (omega arith)
+  fill-ahead (x ∷ r) (y ∷ o) (suc i) (suc j) d h k l = fill-ahead r o i j d (omega arith) (omega arith) (omega arith)
+
 head-length : (n : ℕ) (ws : List ℕ) → 0 < n → n ≤ length ws → length (drop 1 (take n ws)) ≡ n - 1
 head-length n ws h k = length-drop 1 (take n ws) ∙ ap (λ (m : ℕ). m - 1) (length-take-le n ws k)
 

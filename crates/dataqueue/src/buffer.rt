@@ -13,19 +13,17 @@ use crate::state::Queues;
 use itron::limit::MAX_WORDS;
 
 // Without the first of the words of a part: the others move up, and a 0 comes last.
-pub(crate) fn close_up(words: [u32; MAX_WORDS], first: usize, len: usize) -> [u32; MAX_WORDS]
-    requires { ⌜ (0 < len) × (first + len ≤ maxWords) ⌝ }
-    ensures { λ r. ⌜ r ≡ closeUp first len words ⌝ }
+pub(crate) fn close_up(words: &mut [u32; MAX_WORDS], first: usize, len: usize)
+    requires { ⌜ (0 < len) × (first + len ≤ maxWords) × (length (now words) ≡ maxWords) ⌝ }
+    ensures { λ r. ⌜ now (words .exit) ≡ closeUp first len (now (words .entry)) ⌝ }
 {
-    let mut rest = words;
     let last = first + len - 1;
     let mut i = first;
     while i < last {
-        rest[i] = words[i + 1];
+        words[i] = words[i + 1];
         i += 1;
     }
-    rest[last] = 0;
-    rest
+    words[last] = 0;
 }
 
 impl Queues {
@@ -76,9 +74,7 @@ impl Queues {
         ensures { λ r. ⌜ r ≡ queuesAs (setBuffer (queuesOf self) (suc object) (drop 1 (queueIn (queuesOf self) (suc object) .buffer))) ⌝ }
     {
         let mut queue = self.records[object];
-        let words = self.words;
-        let rest = close_up(words, queue.first, queue.len);
-        self.words = rest;
+        close_up(&mut self.words, queue.first, queue.len);
         queue.len = queue.len - 1;
         self.records[object] = queue;
         self

@@ -83,7 +83,7 @@ pub fn send(
                 done(tasks, queues.push(object, word), 0)
             } else {
                 ended(
-                    tasks.or_wait(task, Wait::Sending(object, word), patience),
+                    tasks.or_wait(task, Wait::Sending(object as u8, word), patience),
                     queues,
                 )
             }
@@ -107,7 +107,7 @@ pub fn receive(
         return match sender {
             First::Waiter(from, sent) => ended(tasks.wake(from, sent, 0), queues),
             First::Nobody => ended(
-                tasks.or_wait(task, Wait::Receiving(object), patience),
+                tasks.or_wait(task, Wait::Receiving(object as u8), patience),
                 queues,
             ),
         };

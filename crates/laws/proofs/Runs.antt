@@ -17,7 +17,7 @@ use Rattle.model.specs.Waits.{waitersAt}
 use Rattle.model.specs.Table.{Entry, task, sem, queue, region, fresh, freshBy, emptyState, enter, enterBy, add, checkEntry, close, closeBy, shut}
 use Rattle.model.specs.Calls.{Call, call, refer, step, check, operationOf, actIf, no}
 use Rattle.model.specs.History.{event, after, history, total}
-use Rattle.model.specs.Demand3.{JustClosed}
+use Rattle.model.specs.Demand3.{Demand3, JustClosed}
 use Rattle.model.specs.Turns.{serves, tasksOf, InTurn}
 use Rattle.model.specs.declared.Kind.{Kind}
 use Rattle.model.specs.declared.Kind.the-variants.{Semaphore, Queue as QueueKind}
@@ -83,7 +83,8 @@ pub closes : {s : State} → Built s → close (viewOf s) ≡ done (shut (viewOf
 unfolding close
 closes {s} b = ap (λ (c : Bool). closeBy c (viewOf s)) (idle b .isOpen)
 
-just-closed : {s : State} {r : Entered} → Built s → Enters s (close (viewOf s)) r → JustClosed (viewOf (r .state))
+-- so it is with a table just closed
+pub just-closed : {s : State} {r : Entered} → Built s → Enters s (close (viewOf s)) r → JustClosed (viewOf (r .state))
 just-closed {s} {r} b g =
     let k = idle b in
     let e : viewOf (r .state) ≡ shut (viewOf s) = g .seen ∙ ap (λ (o : Out). o .state) (closes b) in
@@ -150,7 +151,13 @@ answers-of {s₀} (refersQueue cs s l h z id r d) =
 
 -- demand 3: whatever the table and the calls
 pub whole : {s s′ : State} {r : Entered} {cs : List Call} {l : List Said} → Built s → Enters s (close (viewOf s)) r → Ran (r .state) cs s′ l → Whole (r .state) s′ cs l
-whole {r} {cs} b g h = record { demand = demand3 (viewOf (r .state)) (just-closed b g) cs; state = state-of h; answers = answers-of h }
+whole {r} {cs} b g h =
+    let m = viewOf (r .state) in
+    record {
+      demand = subst (λ (x : Model.State). Demand3 m (history m cs) x) (sym (state-of h)) (demand3 m (just-closed b g) cs);
+      state = state-of h;
+      answers = answers-of h;
+    }
 
 -- taking turns: from any state of the program
 pub turns : {s₁ : State} → Valid s₁ → (p : Place) (e : Waiter) (ahead behind : List Waiter) → waitersAt (viewOf s₁) p ≡ ahead ++ e ∷ behind → TakesTurns s₁ p e ahead

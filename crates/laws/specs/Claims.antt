@@ -17,11 +17,11 @@ use Rattle.laws.specs.Runs.{Said, saidIn, Ran}
 
 -- demand 3 of a run from s₀ by the calls cs to s with the answers l
 pub record Whole (s₀ s : State) (cs : List Call) (l : List Said) : Type 0 where
-  -- the claim, about the model's history of these calls
-  pub demand : Demand3 (viewOf s₀) cs
-  -- the state that the program gave is the one that the claim speaks of
+  -- the claim, about the model's history of these calls and the state that the program gave
+  pub demand : Demand3 (viewOf s₀) (history (viewOf s₀) cs) (viewOf s)
+  -- that state is the one after the history
   pub state : viewOf s ≡ after (viewOf s₀) cs
-  -- and so are its answers
+  -- and the history's answers are those that the program gave
   pub answers : l ≡ map saidIn (history (viewOf s₀) cs)
 
 -- taking turns: e waits at p in the state s₁ with the tasks `ahead` before it

@@ -301,7 +301,7 @@ unfolding after history
 each-taken s₀ j [] q = tt
 each-taken s₀ j (c ∷ cs) q = (taken s₀ (after s₀ cs) (history s₀ cs) (inv s₀ j cs) q c, each-taken s₀ j cs q)
 
-pub demand3 : (s₀ : State) → JustClosed s₀ → (cs : List Call) → Demand3 s₀ cs
+pub demand3 : (s₀ : State) → JustClosed s₀ → (cs : List Call) → Demand3 s₀ (history s₀ cs) (after s₀ cs)
 demand3 s₀ j cs = record {
   conserved = conserved s₀ j cs;
   sendersAllowed = each-sent s₀ j cs;

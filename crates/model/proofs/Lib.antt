@@ -11,3 +11,4 @@ pub mod Demand3
 pub mod Turns
 pub mod Verdict
 pub mod Entries
+pub mod Bounds

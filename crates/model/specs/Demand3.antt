@@ -10,8 +10,8 @@ use Rattle.model.specs.Lists.{All, keep, only}
 use Rattle.model.specs.State.{Side, onSem, receiving, sending, Place, Waiter, State, semAt, queueAt, domainAt, place}
 use Rattle.model.specs.Answers.{Released, Answer}
 use Rattle.model.specs.Waits.{senders}
-use Rattle.model.specs.Calls.{semaphore, queue, Op, signal, acquire, send, receive, refer, setVector, Call, no}
-use Rattle.model.specs.History.{Event, History, after, history, words, total, Each, sent, handed, handedIn, joined, grants, signals, pending, vectorSince}
+use Rattle.model.specs.Calls.{semaphore, queue, Op, signal, acquire, send, receive, refer, setVector, no}
+use Rattle.model.specs.History.{Event, History, words, total, Each, sent, handed, handedIn, joined, grants, signals, pending, vectorSince}
 
 -- ---- admitted when it called: by the pattern for that kind of call in the vector that held after the history h
 -- a send is normal operation 1
@@ -105,21 +105,21 @@ senderOf e = record { task = e .task; word = e .word }
 abbrev pub wordsIn : List Waiter → List ℕ
 wordsIn l = map (λ (e : Waiter). e .word) l
 
--- ---- demand 3, of the calls cs (the newest first) from the state s₀ on
-pub record Demand3 (s₀ : State) (cs : List Call) : Type 0 where
+-- ---- demand 3, of a history h (the newest call first) that began in the state s₀ and ended in s
+pub record Demand3 (s₀ : State) (h : History) (s : State) : Type 0 where
   -- for every queue: the words handed out, then those buffered (oldest first), then those of the waiting senders (first to last)
   -- are the words of the accepted sends in call order
-  pub conserved : (q : ℕ) → words (handed q) (history s₀ cs) ++ (queueAt (after s₀ cs) q .buffer ++ wordsIn (senders (after s₀ cs) q)) ≡ words (sent q) (history s₀ cs)
+  pub conserved : (q : ℕ) → words (handed q) h ++ (queueAt s q .buffer ++ wordsIn (senders s q)) ≡ words (sent q) h
   -- every accepted send came from a domain admitted when it called
-  pub sendersAllowed : (q : ℕ) → Each (SentAllowed s₀ q) (history s₀ cs)
+  pub sendersAllowed : (q : ℕ) → Each (SentAllowed s₀ q) h
   -- every word handed out went to a receiver whose domain was admitted when it called
-  pub takersAllowed : (q : ℕ) → Each (TakenAllowed s₀ q) (history s₀ cs)
+  pub takersAllowed : (q : ℕ) → Each (TakenAllowed s₀ q) h
   -- the waiting senders are exactly the tasks whose send answered "waiting" and whose release no later answer shows, each with that send's word
-  pub sendersAre : (q : ℕ) → map senderOf (senders (after s₀ cs) q) ≡ waitingSends q (history s₀ cs)
+  pub sendersAre : (q : ℕ) → map senderOf (senders s q) ≡ waitingSends q h
   -- and so it is with all who wait
-  pub waitersAre : after s₀ cs .waits ≡ pending (history s₀ cs)
+  pub waitersAre : s .waits ≡ pending h
   -- for every semaphore: count + grants = start + accepted signals
-  pub counted : (i : ℕ) → semAt (after s₀ cs) i .count + total (grants i) (history s₀ cs) ≡ semAt s₀ i .count + total (signals i) (history s₀ cs)
+  pub counted : (i : ℕ) → semAt s i .count + total (grants i) h ≡ semAt s₀ i .count + total (signals i) h
 
 -- what is known of a table just closed: nobody waits and nothing is buffered
 pub record JustClosed (s : State) : Type 0 where

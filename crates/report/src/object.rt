@@ -28,9 +28,9 @@ fn put_comma(out: &mut [u8; 4096], at: usize, k: usize) -> usize {
     at
 }
 
-// The number of an index. The sum never wraps: an index is below a limit of the table.
-fn number_of(index: usize) -> u64 {
-    std::num::wrapping_add_u64(index as u64, 1)
+// The number of an index.
+fn number_of(index: u8) -> u64 {
+    index as u64 + 1
 }
 
 // What a task waits for.

@@ -115,7 +115,7 @@ pub fn acquire(
             semaphores: taken,
         };
     }
-    let ended = tasks.or_wait(task, Wait::OnSem(object), patience);
+    let ended = tasks.or_wait(task, Wait::OnSem(object as u8), patience);
     let reply = ended.reply;
     let next = ended.tasks;
     Effect {

@@ -8,13 +8,13 @@ use itron::limit::MAX_TASKS;
 
 // Indexes of tasks by arrival: the first `count` entries; the others are 0.
 pub(crate) struct Order {
-    pub(crate) entries: [usize; MAX_TASKS],
+    pub(crate) entries: [u8; MAX_TASKS],
     pub(crate) count: usize,
 }
 
 impl Order {
     // With one task more, unless it is the one left out.
-    pub(crate) fn kept(mut self, task: usize, left: usize) -> Order
+    pub(crate) fn kept(mut self, task: u8, left: u8) -> Order
         requires { ⌜ self .count < maxTasks ⌝ }
         ensures { λ r. ⌜ r ≡ keptOf self task left ⌝ }
     {
@@ -29,7 +29,7 @@ impl Order {
 }
 
 // The first `waiting` entries of the order, one task left out.
-pub(crate) fn without(order: [usize; MAX_TASKS], waiting: usize, left: usize) -> Order
+pub(crate) fn without(order: [u8; MAX_TASKS], waiting: usize, left: u8) -> Order
     requires { ⌜ waiting ≤ maxTasks ⌝ }
     ensures { λ r. ⌜ r ≡ orderOf (without left (take waiting order)) ⌝ }
 {

@@ -20,7 +20,7 @@ pub struct Tasks {
     pub(crate) entries: [Task; MAX_TASKS],
     pub(crate) waiting: usize,
     // Indexes of the waiting tasks by arrival; 0 past the first `waiting`.
-    pub(crate) order: [usize; MAX_TASKS],
+    pub(crate) order: [u8; MAX_TASKS],
 }
 
 impl Tasks {
@@ -88,7 +88,7 @@ impl Tasks {
         ensures { λ r. ⌜ r ≡ tasksAs (domainsOf self) (leave (suc task) (waitsOf self)) ⌝ }
     {
         let order = self.order;
-        let rest = order::without(order, self.waiting, task);
+        let rest = order::without(order, self.waiting, task as u8);
         let entries = rest.entries;
         self.order = entries;
         self.waiting = rest.count;
@@ -104,7 +104,7 @@ impl Tasks {
         ensures { λ r. ⌜ r ≡ tasksAs (domainsOf self) (join (waiterOf (suc task) wait) (waitsOf self)) ⌝ }
     {
         let at = self.waiting;
-        self.order[at] = task;
+        self.order[at] = task as u8;
         let old = self.entries[task];
         let waiter = old.with_wait(wait);
         self.entries[task] = waiter;

@@ -2,12 +2,13 @@
 ghost use mathlib.Core.Path.{_≡_};
 ghost use Rattle.tasks.specs.View.{withWait};
 
-// What a task does: ready, or waiting with the index of its object. An index is a number less 1.
+// What a task does: ready, or waiting with the index of its object. An index is a number less 1; indexes of tasks and objects
+// are kept as bytes, since the whole state is copied by every call.
 pub enum Wait {
     Ready,
-    OnSem(usize),
-    Receiving(usize),
-    Sending(usize, u32),
+    OnSem(u8),
+    Receiving(u8),
+    Sending(u8, u32),
 }
 
 pub struct Task {

@@ -58,15 +58,15 @@ pub(crate) fn waits_at(wait: Wait, side: Side, object: usize) -> bool
 {
     match side {
         Side::OnSem => match wait {
-            Wait::OnSem(k) => object == k,
+            Wait::OnSem(k) => object == k as usize,
             _ => false,
         },
         Side::Receiving => match wait {
-            Wait::Receiving(k) => object == k,
+            Wait::Receiving(k) => object == k as usize,
             _ => false,
         },
         Side::Sending => match wait {
-            Wait::Sending(k, _) => object == k,
+            Wait::Sending(k, _) => object == k as usize,
             _ => false,
         },
     }
@@ -94,7 +94,7 @@ impl Tasks {
         let mut ahead = k;
         let mut i = 0;
         while i < waiting {
-            let task = order[i];
+            let task = order[i] as usize;
             let wait = wait_of(entries, task);
             if waits_at(wait, side, object) {
                 if ahead == 0 {

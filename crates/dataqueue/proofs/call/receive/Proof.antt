@@ -40,6 +40,9 @@ ended-requires c κs = search needs
 enum-told : tie.Need-enum-told
 enum-told c = search needs
 
+cast-t18 : tie.Need-cast-t18
+cast-t18 c = search needs
+
 or-wait-requires : tie.Need-or-wait-requires
 or-wait-requires c κs = search needs
 
@@ -126,7 +129,7 @@ receive-spec =
     wake-requires
     ended-requires
     enum-told
-    or-wait-requires
+    cast-t18 or-wait-requires
     ended-requires-2
     returns
     returns-2

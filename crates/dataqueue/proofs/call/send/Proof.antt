@@ -53,6 +53,9 @@ push-requires c κs =
 done-requires : tie.Need-done-requires
 done-requires c κs = search needs
 
+cast-t16 : tie.Need-cast-t16
+cast-t16 c = search needs
+
 or-wait-requires : tie.Need-or-wait-requires
 or-wait-requires c κs = search needs
 
@@ -89,7 +92,7 @@ send-spec =
     has-room-requires
     push-requires
     done-requires
-    or-wait-requires
+    cast-t16 or-wait-requires
     ended-requires-2
     returns
     returns-2

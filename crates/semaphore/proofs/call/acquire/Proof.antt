@@ -1,5 +1,7 @@
 use borrow.Author.Needs.{needs}
 use mathlib.Core.Path.{_∙_}
+use native.Mathlib.Omega.{arith}
+use Rattle.semaphore.proofs.Back.{count-seen}
 use Rattle.semaphore.proofs.Effects.{effect, acquire-takes, acquire-waits}
 use Rattle.semaphore.proofs.call.acquire.Statement.{statement}
 use Rattle.semaphore.proofs.call.acquire.Tie as tie
@@ -24,6 +26,9 @@ returns c =
     (λ i. effect (p i) (b .args .tasks) (q i))
     ∙ acquire-takes (b .pre .1) (b .args .object) _ (c .before .before .before .before .before .get .ensures) (b .pre .0) (b .args .task) (b .args .patience) (c .before .before .before .if1 .taken)
 
+cast-t13 : tie.Need-cast-t13
+cast-t13 c = let n = count-seen (c .before .before .before .pre .1) in omega arith
+
 or-wait-requires : tie.Need-or-wait-requires
 or-wait-requires c κs = search needs
 
@@ -41,5 +46,5 @@ acquire-spec =
     put-requires
     plain-requires
     returns
-    or-wait-requires
+    cast-t13 or-wait-requires
     returns-2)

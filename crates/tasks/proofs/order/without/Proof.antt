@@ -20,9 +20,6 @@ abbrev μ-loop : tie.MeasureT-loop
 loop-holds : tie.Need-loop-holds Inv-loop μ-loop
 loop-holds c = (omega arith, refl)
 
-mul-task : tie.Need-mul-task Inv-loop μ-loop
-mul-task c = omega arith
-
 array-read-task : tie.Need-array-read-task Inv-loop μ-loop
 array-read-task c = omega arith
 
@@ -57,7 +54,6 @@ without-spec =
     Inv-loop
     μ-loop
     loop-holds
-    mul-task
     array-read-task
     kept-requires
     add-i

@@ -10,17 +10,26 @@ enum-told c = search needs
 enum-known-wait : tie.Need-enum-known-wait
 enum-known-wait c = search needs
 
+cast-result : tie.Need-cast-result
+cast-result c = search needs
+
 enum-told-2 : tie.Need-enum-told-2
 enum-told-2 c = search needs
 
 enum-known-wait-2 : tie.Need-enum-known-wait-2
 enum-known-wait-2 c = search needs
 
+cast-result-2 : tie.Need-cast-result-2
+cast-result-2 c = search needs
+
 enum-told-3 : tie.Need-enum-told-3
 enum-told-3 c = search needs
 
 enum-known-wait-3 : tie.Need-enum-known-wait-3
 enum-known-wait-3 c = search needs
+
+cast-result-3 : tie.Need-cast-result-3
+cast-result-3 c = search needs
 
 returns : tie.Need-returns
 returns c = let a = c .before .before .before .before .before .args in on-sem (a .side) (a .wait) (a .object) _ (c .before .before .before .before .match .keys1) (c .before .wait .given .1)
@@ -46,11 +55,11 @@ waits-at-spec =
     (tie.spec
     enum-told
     enum-known-wait
-    enum-told-2
+    cast-result enum-told-2
     enum-known-wait-2
-    enum-told-3
+    cast-result-2 enum-told-3
     enum-known-wait-3
-    returns
+    cast-result-3 returns
     returns-2
     returns-3
     returns-4

@@ -1,8 +1,9 @@
+use lib.ListN.{length}
 -- `Queues::pop` meets its contract. Assumes nothing.
 use borrow.Author.Needs.{needs}
 use Prim.Native.Nat.{_+_, _-_, _<_, _≤_}
 use native.Mathlib.Omega.{arith}
-use mathlib.Core.Path.{ap, _∙_}
+use mathlib.Core.Path.{_≡_, ap, _∙_}
 use Rattle.itron.specs.Limits.{maxWords}
 use Rattle.dataqueue.specs.declared.state.Queue.{Queue}
 use Rattle.dataqueue.proofs.Links.{withParts, withLen, recordIn, record-seen, record-part, pop-link}
@@ -25,7 +26,10 @@ low c =
     (omega arith, omega arith)
 
 close-up-requires : tie.Need-close-up-requires
-close-up-requires c κs = low (c .before)
+close-up-requires c κs =
+    let l = low (c .before) in
+    let n : length (c .before .before .args .t1 .words) ≡ maxWords = search needs in
+    (l .0, l .1, n)
 
 sub-queue : tie.Need-sub-queue
 sub-queue c = let l = low (c .before .before .before) in omega arith

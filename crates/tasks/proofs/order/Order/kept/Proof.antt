@@ -7,9 +7,6 @@ use Rattle.tasks.proofs.order.Order.kept.Tie as tie
 returns : tie.Need-returns
 returns c = rw (eq-eqb _ _ (c .if1 .taken))
 
-mul-self : tie.Need-mul-self
-mul-self c = search needs
-
 element-write-self : tie.Need-element-write-self
 element-write-self c = search needs
 
@@ -20,4 +17,4 @@ returns-2 : tie.Need-returns-2
 returns-2 c = rw (ne-eqb _ _ (c .if1 .left))
 
 pub kept-spec : {M : Type 1} → statement M
-kept-spec = tie.close (tie.spec returns mul-self element-write-self add-self returns-2)
+kept-spec = tie.close (tie.spec returns element-write-self add-self returns-2)

@@ -4,8 +4,8 @@ use Rattle.tasks.proofs.Changes.{join-link, join-room}
 use Rattle.tasks.proofs.state.Tasks.join.Statement.{statement}
 use Rattle.tasks.proofs.state.Tasks.join.Tie as tie
 
-mul-self : tie.Need-mul-self
-mul-self c = search needs
+cast-self : tie.Need-cast-self
+cast-self c = search needs
 
 element-write-self : tie.Need-element-write-self
 element-write-self c = join-room (c .pre .0) (c .args .task) (c .pre .1)
@@ -38,8 +38,7 @@ pub join-spec : {M : Type 1} → statement M
 join-spec =
     tie.close
     (tie.spec
-    mul-self
-    element-write-self
+    cast-self element-write-self
     mul-old
     element-copy-out-old
     with-wait-requires

@@ -4,6 +4,9 @@ use Rattle.tasks.proofs.Changes.{release-link}
 use Rattle.tasks.proofs.state.Tasks.release.Statement.{statement}
 use Rattle.tasks.proofs.state.Tasks.release.Tie as tie
 
+cast-without : tie.Need-cast-without
+cast-without c = search needs
+
 without-requires : tie.Need-without-requires
 without-requires c κs = search needs
 
@@ -32,7 +35,7 @@ pub release-spec : {M : Type 1} → statement M
 release-spec =
     tie.close
     (tie.spec
-    without-requires
+    cast-without without-requires
     mul-old
     element-copy-out-old
     with-wait-requires

@@ -25,11 +25,11 @@ abbrev μ-loop : tie.MeasureT-loop
 loop-holds : tie.Need-loop-holds Inv-loop μ-loop
 loop-holds c = (omega arith, c .before .before .pre .room, refl)
 
-mul-task : tie.Need-mul-task Inv-loop μ-loop
-mul-task c = omega arith
-
 array-read-task : tie.Need-array-read-task Inv-loop μ-loop
 array-read-task c = omega arith
+
+cast-task : tie.Need-cast-task Inv-loop μ-loop
+cast-task c = search needs
 
 wait-of-requires : tie.Need-wait-of-requires Inv-loop μ-loop
 wait-of-requires c κs = tt
@@ -95,9 +95,8 @@ waiter-spec =
     Inv-loop
     μ-loop
     loop-holds
-    mul-task
     array-read-task
-    wait-of-requires
+    cast-task wait-of-requires
     waits-at-requires
     add-result
     returns
