@@ -2,7 +2,7 @@
 use Prim.Native.Nat.{ℕ, zero, suc, _+_, _-_, _≤_, _<_}
 use native.Mathlib.Omega.{arith}
 use mathlib.Core.Path.{_≡_, refl, sym, ap, _∙_}
-use mathlib.Core.Bool.{Bool, true, false, not, _&&_}
+use mathlib.Core.Bool.{Bool, true, false, not, _&&_, and-true, and-false}
 use mathlib.Core.List.{[], _∷_, _++_}
 use mathlib.Core.Option.{Option, none, some}
 use lib.Dec.{eqb, leb, ltb, ltb→lt, leb→le}
@@ -70,14 +70,6 @@ opening-passes false false true own z e h = absurd (not-ok eId (sym e ∙ h))
 opening-passes false false false own z e h = refl
 
 -- ---- domains
-and-true : (b : Bool) → b ≡ b && true
-and-true true = refl
-and-true false = refl
-
-and-false : (b : Bool) → false ≡ b && false
-and-false true = refl
-and-false false = refl
-
 pub owns-kernel : (n : ℕ) (z : ℤ) → z ≡ negsuc 0 → true ≡ ownsTask n z
 owns-kernel n z h = rw h
 
@@ -88,8 +80,8 @@ owns-user n (negsuc (suc k)) h = refl
 owns-user n (pos k) h = go (leb k n)
   where
     go : (b : Bool) → not (eqb (pick b k 0) 0) ≡ not (eqb k 0) && b
-    go true = and-true (not (eqb k 0))
-    go false = and-false (not (eqb k 0))
+    go true = sym (and-true (not (eqb k 0)))
+    go false = sym (and-false (not (eqb k 0)))
 
 pub owns-none : (n : ℕ) (z : ℤ) → z ≡ negsuc 1 → true ≡ owns n z
 owns-none n z h = rw h

@@ -1,7 +1,7 @@
 -- Nobody waits at an object without a number. Assumes nothing.
 use Prim.Native.Nat.{ℕ}
 use mathlib.Core.Path.{_≡_, refl, sym, ap, _∙_}
-use mathlib.Core.Bool.{Bool, true, false, _&&_}
+use mathlib.Core.Bool.{Bool, true, false, _&&_, and-false}
 use mathlib.Core.List.{List, [], _∷_, map}
 use lib.ListN.{getD}
 use Rattle.model.specs.Lists.{All, consIf, keep}
@@ -11,10 +11,6 @@ use Rattle.model.specs.Waits.{standsAt, waitersAt}
 use Rattle.model.specs.Conditions.{Plain, Sound}
 use Rattle.model.proofs.Lists.{eqb-no}
 use Rattle.tasks.specs.Ends.{taskIn}
-
-and-false : (b : Bool) → b && false ≡ false
-and-false true = refl
-and-false false = refl
 
 nobody-at : (d : Side) (l : List Waiter) → All Plain l → keep (standsAt (place d 0)) l ≡ []
 nobody-at d [] h = refl

@@ -2,7 +2,7 @@
 use mathlib.Core.Path.{_≡_, refl, sym, ap, _∙_, subst}
 use mathlib.Core.Logic.{_≢_}
 use mathlib.Core.Logic.{_⊎_, inl, inr}
-use mathlib.Core.Bool.{Bool, true, false, _&&_}
+use mathlib.Core.Bool.{Bool, true, false, _&&_, and-false}
 use mathlib.Core.List.{List, [], _∷_, _++_, append-assoc, append-nil}
 use Prim.Native.Nat.{ℕ, suc, _+_, _≤_, _<_}
 use native.Mathlib.Omega.{arith}
@@ -169,11 +169,7 @@ pub join-other : (s : State) (e : Waiter) (p : Place) → standsAt p e ≡ false
 join-other s e p h = keep-append (standsAt p) (s .waits) (e ∷ []) ∙ ap (λ (b : Bool). waitersAt s p ++ consIf b e []) h ∙ append-nil (waitersAt s p)
 
 pub unlike : (d d′ : Side) (q n : ℕ) → q ≢ n → samePlace (place d q) (place d′ n) ≡ false
-unlike d d′ q n h = rw (eqb-no q n h) (and-no (sameSide d d′))
-  where
-    and-no : (b : Bool) → b && false ≡ false
-    and-no true = refl
-    and-no false = refl
+unlike d d′ q n h = rw (eqb-no q n h) (and-false (sameSide d d′))
 
 pub alike : (d : Side) (q : ℕ) → samePlace (place d q) (place d q) ≡ true
 alike onSem q = eqb-same q

@@ -3,7 +3,7 @@ use Prim.Native.Nat.{ℕ, zero, suc, _-_, _≤_, _<_}
 use native.Mathlib.Omega.{arith}
 use mathlib.Core.Path.{_≡_, refl, sym, ap, _∙_}
 use mathlib.Core.Logic.{_≢_}
-use mathlib.Core.Bool.{Bool, true, false, not, _&&_}
+use mathlib.Core.Bool.{Bool, true, false, not, _&&_, and-false}
 use lib.Dec.{eqb, leb}
 use lib.IntN.{ℤ, pos, negsuc}
 use lib.ListN.{length, getD}
@@ -24,10 +24,6 @@ use Rattle.tasks.proofs.Waits.{ready-absent}
 use Rattle.tasks.proofs.Entries.{entry}
 use Rattle.tasks.proofs.Back.{count-seen, entry-seen}
 
-and-no : (b : Bool) → b && false ≡ false
-and-no true = refl
-and-no false = refl
-
 -- ---- a number outside 1 to n, and one from 1 to n
 pub outside : (z : ℤ) (n : ℕ) → ordinalOf z n ≡ 0 → not (eqb (no z) 0) && leb (no z) n ≡ false
 unfolding ordinalOf
@@ -37,7 +33,7 @@ outside (pos (suc k)) n h = go (leb (suc k) n) refl h
   where
     go : (b : Bool) → leb (suc k) n ≡ b → pick b (suc k) 0 ≡ 0 → not (eqb (suc k) 0) && leb (suc k) n ≡ false
     go true e q = absurd (omega arith)
-    go false e q = rw e (and-no (not (eqb (suc k) 0)))
+    go false e q = rw e (and-false (not (eqb (suc k) 0)))
 
 pub record Within (z : ℤ) (n k : ℕ) : Type 0 where
   pub same : no z ≡ suc (k - 1)
@@ -80,7 +76,7 @@ module _ {t : Tasks} (h : Held t) (z : ℤ) where
 -- ---- the task with a number
 module _ {t : Tasks} (h : Held t) (n : ℕ) where
   pub task-over : t .count < n → noTask ≡ taskOf (domainsOf t) (waitsOf t) n
-  task-over l = rw (lt-leb n (length (domainsOf t)) (let c = count-seen h in omega arith), and-no (not (eqb n 0)))
+  task-over l = rw (lt-leb n (length (domainsOf t)) (let c = count-seen h in omega arith), and-false (not (eqb n 0)))
 
   pub task-in : n ≢ 0 → n ≤ t .count → getD (t .entries) (n - 1) noTask ≡ taskOf (domainsOf t) (waitsOf t) n
   task-in z l =

@@ -8,7 +8,8 @@ use lib.ListN.{length, getD, set}
 use borrow.Author.Needs.{needs}
 use Rattle.itron.specs.Limits.{maxWords}
 use Rattle.dataqueue.specs.Buffers.{closeUp}
-use Rattle.dataqueue.proofs.CloseUp.{filled, fill-step, fill-ahead, close-length, close-move, close-zero, close-start, close-end}
+use Rattle.arrays.proofs.Fills.{filled, fill-step, fill-ahead}
+use Rattle.dataqueue.proofs.CloseUp.{close-length, close-move, close-zero, close-start, close-end}
 use Rattle.dataqueue.proofs.buffer.close_up.Statement.{statement}
 use Rattle.dataqueue.proofs.buffer.close_up.Tie as tie
 use Rattle.dataqueue.proofs.buffer.close_up.Reads as reads
