@@ -12,19 +12,19 @@ use Rattle.itron.specs.Limits.{maxDomains}
 use Rattle.model.specs.Lists.{All, at}
 use Rattle.model.specs.State as Model
 use Rattle.model.specs.State.{Queue, Place, Waiter, noQueue}
-use Rattle.model.specs.Answers.{Out, done, replyOf, plain, codeOf}
+use Rattle.model.specs.Answers.{Out, done, replyOf}
 use Rattle.model.specs.Waits.{waitersAt}
 use Rattle.model.specs.Table.{Entry, task, sem, queue, region, fresh, freshBy, emptyState, enter, enterBy, add, checkEntry, close, closeBy, shut}
-use Rattle.model.specs.Calls.{Call, call, refer, step, check, operationOf, actIf, no}
+use Rattle.model.specs.Calls.{Call, call, refer, step}
 use Rattle.model.specs.History.{event, after, history, total}
 use Rattle.model.specs.Demand3.{Demand3, JustClosed}
 use Rattle.model.specs.Turns.{serves, tasksOf, InTurn}
-use Rattle.model.specs.declared.Kind.{Kind}
 use Rattle.model.specs.declared.Kind.the-variants.{Semaphore, Queue as QueueKind}
 use Rattle.model.specs.declared.Released.{Released}
 use Rattle.model.specs.Answers as Answers
 use Rattle.model.proofs.Lists.{all-snoc}
 use Rattle.model.proofs.Steps.{info-law}
+use Rattle.model.proofs.Refers.{refer-state, refer-reply, refer-receiver}
 use Rattle.model.proofs.Demand3.{demand3}
 use Rattle.model.proofs.Turns.{in-turn}
 use Rattle.kernel.specs.declared.state.State.{State}
@@ -89,32 +89,6 @@ just-closed {s} {r} b g =
     let k = idle b in
     let e : viewOf (r .state) ≡ shut (viewOf s) = g .seen ∙ ap (λ (o : Out). o .state) (closes b) in
     subst (λ (m : Model.State). JustClosed m) (sym e) (record { noWaits = k .noWaits; noWords = λ q. buffer-of (viewOf s .queues) q (k .noWords) })
-
--- ---- a refer changes nothing, and says a code
-refer-state : (m : Model.State) (z : ℤ) (k : Kind) (id : ℤ) → step m (call z (refer k id)) .state ≡ m
-unfolding step
-refer-state m z k id = go (check m (no z) (operationOf (refer k id)) (no id) k)
-  where
-    go : (o : Option Err) → actIf m (no z) (refer k id) o .state ≡ m
-    go (some e) = refl
-    go none = refl
-
-refer-reply : (m : Model.State) (z : ℤ) (k : Kind) (id : ℤ) → plain (codeOf (step m (call z (refer k id)) .answer .code)) 0 ≡ replyOf (step m (call z (refer k id)) .answer)
-unfolding step
-refer-reply m z k id = go (check m (no z) (operationOf (refer k id)) (no id) k)
-  where
-    go : (o : Option Err) → plain (codeOf (actIf m (no z) (refer k id) o .answer .code)) 0 ≡ replyOf (actIf m (no z) (refer k id) o .answer)
-    go (some e) = refl
-    go none = refl
-
--- a refer to a semaphore tells of no receiver
-refer-receiver : (m : Model.State) (z id : ℤ) → 0 ≡ step m (call z (refer Semaphore id)) .answer .info .receiver
-unfolding step
-refer-receiver m z id = go (check m (no z) (operationOf (refer Semaphore id)) (no id) Semaphore)
-  where
-    go : (o : Option Err) → 0 ≡ actIf m (no z) (refer Semaphore id) o .answer .info .receiver
-    go (some e) = refl
-    go none = refl
 
 -- ---- a run is the model's run
 pub state-of : {s₀ s : State} {cs : List Call} {l : List Said} → Ran s₀ cs s l → viewOf s ≡ after (viewOf s₀) cs

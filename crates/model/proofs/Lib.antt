@@ -12,3 +12,4 @@ pub mod Turns
 pub mod Verdict
 pub mod Entries
 pub mod Bounds
+pub mod Refers

@@ -1,0 +1,3 @@
+pub mod Words
+pub mod Performs
+pub mod Loops

@@ -1,0 +1,55 @@
+use mir.Val.{toZ, ofZ}
+use mir.Syntax.{w32}
+use mathlib.Core.Path.{_≡_}
+-- `answer::told_of_semaphore` meets its contract. Assumes nothing.
+use borrow.Author.Needs.{needs}
+use Rattle.batch.proofs.answer.told_of_semaphore.Statement.{statement}
+use Rattle.batch.proofs.answer.told_of_semaphore.Tie as tie
+
+unsigned-requires : tie.Need-unsigned-requires
+unsigned-requires c κs = search needs
+
+array-write-words : tie.Need-array-write-words
+array-write-words c = search needs
+
+cast-words : tie.Need-cast-words
+cast-words c = search needs
+
+array-write-words-2 : tie.Need-array-write-words-2
+array-write-words-2 c = search needs
+
+array-write-words-3 : tie.Need-array-write-words-3
+array-write-words-3 c = search needs
+
+array-write-words-4 : tie.Need-array-write-words-4
+array-write-words-4 c = search needs
+
+array-write-words-5 : tie.Need-array-write-words-5
+array-write-words-5 c = search needs
+
+array-write-words-6 : tie.Need-array-write-words-6
+array-write-words-6 c = search needs
+
+array-write-words-7 : tie.Need-array-write-words-7
+array-write-words-7 c = search needs
+
+returns : tie.Need-returns
+returns c =
+    let z = c .before .before .before .before .before .args .report .code in
+    let t : toZ w32 (ofZ w32 z) ≡ z = search needs in
+    rw (c .before .unsigned .ensures, t)
+
+pub told-of-semaphore-spec : {M : Type 1} → statement M
+told-of-semaphore-spec =
+    tie.close
+    (tie.spec
+    unsigned-requires
+    array-write-words
+    cast-words
+    array-write-words-2
+    array-write-words-3
+    array-write-words-4
+    array-write-words-5
+    array-write-words-6
+    array-write-words-7
+    returns)

@@ -1,0 +1,130 @@
+-- A list of calls as numbers of 32 bits, and their answers as numbers of 32 bits. Definitions only.
+use Prim.Native.Nat.{ℕ, zero, suc, _+_, _*_, _/_}
+use mathlib.Core.Bool.{Bool}
+use mathlib.Core.List.{List, [], _∷_, _++_}
+use mathlib.Core.Option.{Option, none, some}
+use lib.Dec.{leb, ltb}
+use lib.IntN.{ℤ, negsuc}
+use lib.ListN.{length, getD}
+use mir.Syntax.{w32}
+use mir.Val.{toZ, ofZ}
+use Rattle.access.specs.Patterns.{pick}
+use Rattle.access.specs.declared.vector.Vector.{Vector}
+use Rattle.model.specs.State as Model
+use Rattle.model.specs.Answers.{Answer, outcomeOf, releasedOf}
+use Rattle.model.specs.Calls.{Call, call, signal, acquire, send, receive, refer, setVector}
+use Rattle.model.specs.History.{event, after}
+use Rattle.model.specs.declared.Outcome.{Outcome}
+use Rattle.model.specs.declared.Outcome.the-variants.{Code, Waiting}
+use Rattle.model.specs.declared.Kind.the-variants.{Semaphore, Queue}
+use Rattle.model.specs.declared.Patience.the-variants.{Polling, Forever}
+use Rattle.batch.specs.declared.request.Request.{Request}
+
+-- ---- a call is eight words: function, caller, object, word, four patterns; signed numbers are in two's complement
+abbrev pub callWords : ℕ
+callWords = 8
+
+abbrev pub requestAt : List ℕ → ℕ → Request
+requestAt ws at =
+    record {
+      function = getD ws at 0;
+      caller = toZ w32 (getD ws (at + 1) 0);
+      object = toZ w32 (getD ws (at + 2) 0);
+      word = getD ws (at + 3) 0;
+      vector = record { normal1 = getD ws (at + 4) 0; normal2 = getD ws (at + 5) 0; management = getD ws (at + 6) 0; reference = getD ws (at + 7) 0 };
+    }
+
+-- what a request can mean, in document 01's order of the calls
+abbrev pub meanings : Request → List Call
+meanings q =
+    call (q .caller) (signal (q .object))
+    ∷ call (q .caller) (acquire Polling (q .object))
+    ∷ call (q .caller) (acquire Forever (q .object))
+    ∷ call (q .caller) (refer Semaphore (q .object))
+    ∷ call (q .caller) (setVector Semaphore (q .object) (q .vector))
+    ∷ call (q .caller) (send Polling (q .object) (q .word))
+    ∷ call (q .caller) (send Forever (q .object) (q .word))
+    ∷ call (q .caller) (receive Polling (q .object))
+    ∷ call (q .caller) (receive Forever (q .object))
+    ∷ call (q .caller) (refer Queue (q .object))
+    ∷ call (q .caller) (setVector Queue (q .object) (q .vector))
+    ∷ []
+
+-- the n-th of a list, counted from 1
+abbrev pub nth : {A : Type 0} → List A → ℕ → Option A
+nth l zero = none
+nth [] (suc n) = none
+nth (x ∷ l) (suc zero) = some x
+nth (x ∷ l) (suc (suc n)) = nth l (suc n)
+
+-- the function is the meaning's number; any other is no call
+abbrev pub itemOf : Request → Option Call
+itemOf q = nth (meanings q) (q .function)
+
+-- the k-th item of a slice, counted from 0: its words are the eight from k * 8 on; fewer than eight are no call
+abbrev pub itemAt : List ℕ → ℕ → Option Call
+itemAt ws k = pick (leb (k * callWords + callWords) (length ws)) (itemOf (requestAt ws (k * callWords))) none
+
+-- the first n items, THE NEWEST FIRST as in a history
+abbrev pub itemsIn : List ℕ → ℕ → List (Option Call)
+itemsIn ws zero = []
+itemsIn ws (suc k) = itemAt ws k ∷ itemsIn ws k
+
+-- the calls among them
+abbrev pub callsIn : List (Option Call) → List Call
+callsIn [] = []
+callsIn (none ∷ l) = callsIn l
+callsIn (some c ∷ l) = c ∷ callsIn l
+
+-- ---- an answer is eleven words: code, word, released task and its word, first waiter, first receiver, count, four patterns
+abbrev pub answerWords : ℕ
+answerWords = 11
+
+-- "waiting" has no number in document 01; here it is 1, which is no code's
+abbrev pub outcomeWord : Outcome → ℕ
+outcomeWord (Code z) = ofZ w32 z
+outcomeWord Waiting = 1
+
+abbrev pub wordsOf : Answer → List ℕ
+wordsOf a =
+    outcomeWord (outcomeOf (a .code))
+    ∷ a .word
+    ∷ releasedOf (a .released) .task
+    ∷ releasedOf (a .released) .word
+    ∷ a .info .waiter
+    ∷ a .info .receiver
+    ∷ a .info .count
+    ∷ a .info .vector .normal1
+    ∷ a .info .vector .normal2
+    ∷ a .info .vector .management
+    ∷ a .info .vector .reference
+    ∷ []
+
+-- E_RSFN of μITRON4.0, a code of its own: what is no call is refused by it
+abbrev pub eRsfn : ℤ
+eRsfn = negsuc 9
+
+abbrev pub noCall : List ℕ
+noCall = ofZ w32 eRsfn ∷ 0 ∷ 0 ∷ 0 ∷ 0 ∷ 0 ∷ 0 ∷ 0 ∷ 0 ∷ 0 ∷ 0 ∷ []
+
+-- what an item answers in a state of the model, and the state after it
+abbrev pub answerTo : Model.State → Option Call → List ℕ
+answerTo m none = noCall
+answerTo m (some c) = wordsOf (event m c .answer)
+
+abbrev pub next : Model.State → Option Call → Model.State
+next m none = m
+next m (some c) = after m (c ∷ [])
+
+-- the answers to items, in the order in which they were made: each call's is that of its event in the history of the calls
+abbrev pub answersOf : Model.State → List (Option Call) → List ℕ
+answersOf m [] = []
+answersOf m (x ∷ l) = answersOf m l ++ answerTo (after m (callsIn l)) x
+
+-- ---- how many are answered: all that the slice holds (what is left behind the last eight words counts as one), as far as
+-- their answers have room
+abbrev pub groups : ℕ → ℕ
+groups n = (n + 7) / callWords
+
+abbrev pub answerable : ℕ → ℕ → ℕ
+answerable calls answers = pick (ltb (answers / answerWords) (groups calls)) (answers / answerWords) (groups calls)

@@ -1,0 +1,32 @@
+-- What one request gives. Definitions only.
+use Prim.Native.Nat.{ℕ}
+use mathlib.Core.Path.{_≡_}
+use mathlib.Core.List.{[], _∷_}
+use mathlib.Core.Option.{Option}
+use mir.Syntax.{w32}
+use mir.Val.{ofZ}
+use Rattle.model.specs.Calls.{Call}
+use Rattle.kernel.specs.declared.state.State.{State}
+use Rattle.kernel.specs.declared.state.Answer.{Answer}
+use Rattle.kernel.specs.declared.sem.SemaphoreReport.{SemaphoreReport}
+use Rattle.kernel.specs.declared.dtq.QueueReport.{QueueReport}
+use Rattle.kernel.specs.View.{viewOf}
+use Rattle.kernel.specs.Valid.{Valid}
+use Rattle.batch.specs.declared.answer.Made.{Made}
+use Rattle.batch.specs.Encoding.{outcomeWord, answerTo, next}
+
+-- the words of the answers that the operations give
+abbrev pub madeOf : Answer → Made
+madeOf a = record { words = outcomeWord (a .outcome) ∷ a .word ∷ a .released .task ∷ a .released .word ∷ 0 ∷ 0 ∷ 0 ∷ 0 ∷ 0 ∷ 0 ∷ 0 ∷ []; state = a .state }
+
+abbrev pub toldOfSemaphore : SemaphoreReport → Made
+toldOfSemaphore r = record { words = ofZ w32 (r .code) ∷ 0 ∷ 0 ∷ 0 ∷ r .waiter ∷ 0 ∷ r .count ∷ r .vector .normal1 ∷ r .vector .normal2 ∷ r .vector .management ∷ r .vector .reference ∷ []; state = r .state }
+
+abbrev pub toldOfQueue : QueueReport → Made
+toldOfQueue r = record { words = ofZ w32 (r .code) ∷ 0 ∷ 0 ∷ 0 ∷ r .sender ∷ r .receiver ∷ r .count ∷ r .vector .normal1 ∷ r .vector .normal2 ∷ r .vector .management ∷ r .vector .reference ∷ []; state = r .state }
+
+-- an item made on the state s: its answer's words, and what is seen of the state after it
+pub record Performs (s : State) (item : Option Call) (r : Made) : Type 0 where
+  pub answer : r .words ≡ answerTo (viewOf s) item
+  pub seen : viewOf (r .state) ≡ next (viewOf s) item
+  pub valid : Valid (r .state)
