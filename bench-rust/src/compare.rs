@@ -1,0 +1,137 @@
+//! Random lists of calls through both kernels; every word of the answers must agree.
+
+use crate::plain_runs::{bench_table, make, run, ANSWER_WORDS, CALL_WORDS, E_RSFN, WAITING};
+use crate::{ours, plain::*};
+
+const SEED: u64 = 0x9E37_79B9_7F4A_7C15;
+const LISTS: u32 = 2_000;
+const MOST_CALLS: u32 = 400;
+/// What the answers hold before a run, so that a word written too far shows.
+const FILLER: u32 = 0xA5A5_A5A5;
+
+const WRONG_FUNCTIONS: [u32; 4] = [0, 12, 0x8000_0000, u32::MAX];
+const WRONG_CALLERS: [i32; 7] = [-1, 0, 5, 64, 65, i32::MIN, i32::MAX];
+const WRONG_OBJECTS: [i32; 10] = [0, -1, 2, 3, 16, 17, 32, 33, i32::MIN, i32::MAX];
+
+const CODES: [Er; 9] = [WAITING, E_OK, E_RSFN, E_ID, E_CTX, E_OACV, E_NOEXS, E_QOVR, E_TMOUT];
+const NAMES: [&str; 9] = ["waiting", "E_OK", "E_RSFN", "E_ID", "E_CTX", "E_OACV", "E_NOEXS", "E_QOVR", "E_TMOUT"];
+
+/// Marsaglia's xorshift: quick, and the same lists on every machine.
+struct Random(u64);
+
+impl Random {
+    fn next(&mut self) -> u32 {
+        self.0 ^= self.0 << 13;
+        self.0 ^= self.0 >> 7;
+        self.0 ^= self.0 << 17;
+        (self.0 >> 32) as u32
+    }
+
+    fn below(&mut self, limit: usize) -> usize {
+        self.next() as usize % limit
+    }
+
+    fn one_in(&mut self, count: usize) -> bool {
+        self.below(count) == 0
+    }
+
+    fn pick<T: Copy>(&mut self, from: &[T]) -> T {
+        from[self.below(from.len())]
+    }
+
+    fn mostly<T: Copy>(&mut self, good: T, odds: usize, wrong: &[T]) -> T {
+        if self.one_in(odds) {
+            self.pick(wrong)
+        } else {
+            good
+        }
+    }
+}
+
+/// Good numbers for the most part, else waits, releases and full buffers would hardly come about.
+fn random_call(random: &mut Random, ready: &[i32]) -> [u32; CALL_WORDS] {
+    let caller = if ready.is_empty() { 1 } else { random.pick(ready) };
+    let caller = random.mostly(caller, 30, &[1, 2, 3, 4]);
+    let caller = random.mostly(caller, 40, &WRONG_CALLERS);
+    // The last ready task seldom waits, as nobody would release it.
+    let lonely = ready.len() < 2 && !random.one_in(32);
+    let functions: &[u32] =
+        if lonely { &[1, 2, 4, 5, 6, 8, 10, 11] } else { &[1, 1, 2, 3, 4, 5, 6, 6, 7, 8, 9, 10, 11] };
+    let function = random.pick(functions);
+    let function = random.mostly(function, 60, &WRONG_FUNCTIONS);
+    let object = if function < 6 { 1 } else { random.pick(&[1, 1, 2]) };
+    let object = random.mostly(object, 30, &WRONG_OBJECTS);
+    let mut call = [function, caller as u32, object as u32, random.next(), 0, 0, 0, 0];
+    let wide = !random.one_in(4);
+    for pattern in &mut call[4..] {
+        *pattern = if wide { random.pick(&[1, 3, 3, 3]) } else { random.pick(&[0, 1, 2, 3, u32::MAX, 0xFFFF_FFFC]) };
+    }
+    call
+}
+
+/// The list is made along a run of its own, which tells who is ready.
+fn random_calls(random: &mut Random) -> Vec<u32> {
+    let mut kernel = Kernel::EMPTY;
+    bench_table(&mut kernel);
+    let mut ready = vec![1, 2, 3, 4];
+    let mut calls = Vec::new();
+    let mut left = random.below(MOST_CALLS as usize + 1);
+    while left > 0 {
+        let call = random_call(random, &ready);
+        let answer = make(&mut kernel, &call);
+        calls.extend(call);
+        if answer[0] as i32 == WAITING {
+            ready.retain(|&task| task != call[1] as i32);
+        }
+        if answer[2] != 0 {
+            ready.push(answer[2] as i32);
+        }
+        // Once all tasks wait, nothing more can happen.
+        left = if ready.is_empty() { left.min(5) - 1 } else { left - 1 };
+    }
+    let cut = random.mostly(0, 4, &[1, 2, 3, 4, 5, 6, 7]);
+    calls.truncate(calls.len().saturating_sub(cut));
+    calls
+}
+
+/// Mostly room for all answers and a little more, sometimes for some of them only.
+fn random_room(random: &mut Random, calls: &[u32]) -> usize {
+    let whole = calls.len().div_ceil(CALL_WORDS) * ANSWER_WORDS;
+    let (more, less) = (whole + random.below(30), random.below(whole + 1));
+    random.mostly(more, 4, &[less])
+}
+
+/// Names the first call that differs, since nobody would read a whole list.
+fn assert_same(list: u32, calls: &[u32], ours: &[u32], plain: &[u32]) {
+    let Some(word) = ours.iter().zip(plain).position(|(a, b)| a != b) else { return };
+    let call = calls.chunks(CALL_WORDS).nth(word / ANSWER_WORDS);
+    let answer = |all: &[u32]| all.chunks(ANSWER_WORDS).nth(word / ANSWER_WORDS).map(<[u32]>::to_vec);
+    panic!("list {list}, answer word {word}, call {call:x?}: ours {:x?}, plain {:x?}", answer(ours), answer(plain));
+}
+
+pub fn compare() {
+    let mut random = Random(SEED);
+    let mut codes = [0; CODES.len()];
+    let (mut compared, mut releases, mut short) = (0, 0, 0);
+    for list in 0..LISTS {
+        let calls = random_calls(&mut random);
+        let mut plain_answers = vec![FILLER; random_room(&mut random, &calls)];
+        let mut our_answers = plain_answers.clone();
+        let answered = run(&calls, &mut plain_answers);
+        let we_answered = ours::run(&calls, &mut our_answers);
+        assert_same(list, &calls, &our_answers, &plain_answers);
+        assert_eq!(we_answered, answered, "list {list}: how many calls were answered");
+        compared += answered;
+        short += u32::from((answered as usize) < calls.len().div_ceil(CALL_WORDS));
+        for answer in plain_answers.chunks(ANSWER_WORDS).take(answered as usize) {
+            releases += u32::from(answer[2] != 0);
+            codes[CODES.iter().position(|&code| code == answer[0] as i32).expect("a call's code")] += 1;
+        }
+    }
+    println!("Comparison, seed {SEED:#x}: {compared} calls in {LISTS} lists, every word of the answers alike.");
+    println!("The answers were filled with {FILLER:#x} before; in {short} lists they had no room for all calls.");
+    println!("Calls that released a task: {releases}. Codes that came back:");
+    for ((name, code), count) in NAMES.iter().zip(CODES).zip(codes) {
+        println!("  {name:<8} {code:>4} {count:>8}");
+    }
+}

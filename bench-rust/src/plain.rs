@@ -1,0 +1,493 @@
+//! An ordinary kernel core: one struct of fixed arrays, changed in place by each call.
+
+/// A code of μITRON4.0; a refusal is negative.
+pub type Er = i32;
+/// A check passed, an entry taken, a verdict given.
+pub type Check = Result<(), Er>;
+
+pub const E_OK: Er = 0;
+pub const E_RSATR: Er = -11;
+pub const E_PAR: Er = -17;
+pub const E_ID: Er = -18;
+pub const E_CTX: Er = -25;
+pub const E_MACV: Er = -26;
+pub const E_OACV: Er = -27;
+pub const E_NOMEM: Er = -33;
+pub const E_NOID: Er = -34;
+pub const E_OBJ: Er = -41;
+pub const E_NOEXS: Er = -42;
+pub const E_QOVR: Er = -43;
+pub const E_TMOUT: Er = -50;
+
+pub const MAX_DOMAINS: i32 = 32;
+pub const MAX_TASKS: usize = 64;
+pub const MAX_SEMAPHORES: usize = 32;
+pub const MAX_QUEUES: usize = 16;
+pub const MAX_REGIONS: usize = 64;
+pub const MAX_WORDS: usize = 512;
+pub const MAX_SEMAPHORE_COUNT: u32 = 65_535;
+pub const MAX_QUEUE_CAPACITY: u32 = 64;
+
+pub const TDOM_KERNEL: i32 = -1;
+pub const TDOM_NONE: i32 = -2;
+
+pub const TA_NOWRITE: u32 = 1;
+pub const TA_EXEC: u32 = 4;
+
+pub const TPM_WRITE: u32 = 1;
+pub const TPM_READ: u32 = 2;
+pub const TPM_EXEC: u32 = 4;
+const TPM_ALL: u32 = TPM_WRITE | TPM_READ | TPM_EXEC;
+
+/// The first address beyond memory.
+const ADDRESSES: u64 = 1 << 32;
+
+/// First hit wins: each check is left by `?`.
+fn ensure(good: bool, code: Er) -> Check {
+    good.then_some(()).ok_or(code)
+}
+
+/// The access vector: bit d-1 of a pattern admits domain d.
+#[derive(Clone, Copy, Debug, PartialEq)]
+pub struct Vector {
+    pub normal1: u32,
+    pub normal2: u32,
+    pub management: u32,
+    pub reference: u32,
+}
+
+impl Vector {
+    pub const KERNEL: Vector = Vector::all(0);
+    pub const SHARED: Vector = Vector::all(u32::MAX);
+
+    pub const fn new(normal1: u32, normal2: u32, management: u32, reference: u32) -> Vector {
+        Vector { normal1, normal2, management, reference }
+    }
+
+    const fn all(pattern: u32) -> Vector {
+        Vector::new(pattern, pattern, pattern, pattern)
+    }
+
+    pub fn private(domain: i32) -> Vector {
+        match domain {
+            1..=MAX_DOMAINS => Vector::all(1 << (domain - 1)),
+            _ => Vector::KERNEL,
+        }
+    }
+
+    fn default_of(domain: i32) -> Vector {
+        match domain {
+            TDOM_NONE => Vector::SHARED,
+            _ => Vector::private(domain),
+        }
+    }
+}
+
+/// The kernel domain has no bit: it is admitted whatever the pattern.
+fn admits(pattern: u32, domain: i32) -> bool {
+    domain == TDOM_KERNEL || pattern >> (domain - 1) & 1 == 1
+}
+
+/// Objects of one kind in the order of their entries, numbered from 1.
+struct Table<T, const N: usize> {
+    entries: [T; N],
+    count: usize,
+}
+
+impl<T: Copy, const N: usize> Table<T, N> {
+    const fn empty(unused: T) -> Self {
+        Table { entries: [unused; N], count: 0 }
+    }
+
+    fn add(&mut self, entry: T) {
+        self.entries[self.count] = entry;
+        self.count += 1;
+    }
+
+    /// An id beyond the limit and an id that has no entry are told apart.
+    fn index(&self, id: i32) -> Result<usize, Er> {
+        match usize::try_from(id) {
+            Ok(number) if (1..=self.count).contains(&number) => Ok(number - 1),
+            Ok(number) if (1..=N).contains(&number) => Err(E_NOEXS),
+            _ => Err(E_ID),
+        }
+    }
+}
+
+/// A released task, and the word that it gets.
+#[derive(Clone, Copy, Debug, PartialEq)]
+pub struct Released {
+    pub task: u32,
+    pub word: u32,
+}
+
+/// What a call that is not refused has done.
+#[derive(Clone, Copy, Debug, PartialEq)]
+pub struct Done {
+    pub waiting: bool,
+    pub word: u32,
+    pub released: Option<Released>,
+}
+
+impl Done {
+    pub const OK: Done = Done { waiting: false, word: 0, released: None };
+    pub const WAITING: Done = Done { waiting: true, word: 0, released: None };
+
+    fn releasing(task: usize, word: u32) -> Done {
+        Done { released: Some(Released { task: task as u32 + 1, word }), ..Done::OK }
+    }
+}
+
+/// What a refer tells; a semaphore has no receivers.
+#[derive(Clone, Copy, Debug, PartialEq)]
+pub struct Referred {
+    pub first_waiter: u32,
+    pub first_receiver: u32,
+    pub count: u32,
+    pub vector: Vector,
+}
+
+#[derive(Clone, Copy)]
+struct Task {
+    domain: i32,
+    /// The word that a waiting sender brings.
+    word: u32,
+    waiting: bool,
+    /// The task behind this one in its wait queue; 0 is nobody.
+    next: u8,
+}
+
+const NO_TASK: Task = Task { domain: 0, word: 0, waiting: false, next: 0 };
+
+/// Waiting tasks linked through their records: a task waits in one place only.
+#[derive(Clone, Copy)]
+struct WaitQueue {
+    first: u8,
+    last: u8,
+}
+
+const NOBODY: WaitQueue = WaitQueue { first: 0, last: 0 };
+
+impl WaitQueue {
+    fn join(&mut self, tasks: &mut [Task; MAX_TASKS], task: usize) {
+        let number = task as u8 + 1;
+        tasks[task].waiting = true;
+        tasks[task].next = 0;
+        match self.last {
+            0 => self.first = number,
+            last => tasks[usize::from(last) - 1].next = number,
+        }
+        self.last = number;
+    }
+
+    fn release(&mut self, tasks: &mut [Task; MAX_TASKS]) -> Option<usize> {
+        let task = usize::from(self.first).checked_sub(1)?;
+        tasks[task].waiting = false;
+        self.first = tasks[task].next;
+        if self.first == 0 {
+            self.last = 0;
+        }
+        Some(task)
+    }
+}
+
+#[derive(Clone, Copy)]
+struct Semaphore {
+    count: u32,
+    max: u32,
+    vector: Vector,
+    waiters: WaitQueue,
+}
+
+const NO_SEMAPHORE: Semaphore = Semaphore { count: 0, max: 0, vector: Vector::KERNEL, waiters: NOBODY };
+
+/// A data queue; its ring buffer is a part of the kernel's words.
+#[derive(Clone, Copy)]
+struct Queue {
+    start: u32,
+    capacity: u32,
+    oldest: u32,
+    count: u32,
+    vector: Vector,
+    senders: WaitQueue,
+    receivers: WaitQueue,
+}
+
+const NO_QUEUE: Queue =
+    Queue { start: 0, capacity: 0, oldest: 0, count: 0, vector: Vector::KERNEL, senders: NOBODY, receivers: NOBODY };
+
+impl Queue {
+    /// One subtraction wraps the place, as both numbers are below the capacity.
+    fn place(&self, behind: u32) -> usize {
+        let mut place = self.oldest + behind;
+        if place >= self.capacity {
+            place -= self.capacity;
+        }
+        (self.start + place) as usize
+    }
+
+    fn push(&mut self, words: &mut [u32; MAX_WORDS], word: u32) {
+        words[self.place(self.count)] = word;
+        self.count += 1;
+    }
+
+    fn pop(&mut self, words: &[u32; MAX_WORDS]) -> u32 {
+        let word = words[self.place(0)];
+        self.oldest = if self.oldest + 1 == self.capacity { 0 } else { self.oldest + 1 };
+        self.count -= 1;
+        word
+    }
+}
+
+#[derive(Clone, Copy)]
+struct Region {
+    base: u32,
+    size: u32,
+    atr: u32,
+    vector: Vector,
+}
+
+const NO_REGION: Region = Region { base: 0, size: 0, atr: 0, vector: Vector::KERNEL };
+
+impl Region {
+    /// An end may be 2^32, which needs the wider type.
+    fn end(&self) -> u64 {
+        u64::from(self.base) + u64::from(self.size)
+    }
+
+    fn holds(&self, base: u32) -> bool {
+        self.base <= base && base - self.base < self.size
+    }
+}
+
+/// The whole kernel; the domain of an object is not kept, as only its default vector needs it.
+pub struct Kernel {
+    domains: i32,
+    closed: bool,
+    tasks: Table<Task, MAX_TASKS>,
+    semaphores: Table<Semaphore, MAX_SEMAPHORES>,
+    queues: Table<Queue, MAX_QUEUES>,
+    regions: Table<Region, MAX_REGIONS>,
+    words: [u32; MAX_WORDS],
+    words_used: u32,
+}
+
+/// Building the table.
+impl Kernel {
+    /// A constant, so that a host's kernel can be set up without a copy.
+    pub const EMPTY: Kernel = Kernel {
+        domains: 0,
+        closed: false,
+        tasks: Table::empty(NO_TASK),
+        semaphores: Table::empty(NO_SEMAPHORE),
+        queues: Table::empty(NO_QUEUE),
+        regions: Table::empty(NO_REGION),
+        words: [0; MAX_WORDS],
+        words_used: 0,
+    };
+
+    /// Starts anew; a refused n leaves the empty table for n = 0.
+    pub fn fresh(&mut self, n: i32) -> Check {
+        *self = Kernel::EMPTY;
+        ensure((0..=MAX_DOMAINS).contains(&n), E_PAR)?;
+        self.domains = n;
+        Ok(())
+    }
+
+    fn is_user(&self, domain: i32) -> bool {
+        (1..=self.domains).contains(&domain)
+    }
+
+    /// The checks that all kinds of entries have in common.
+    fn check_entry<T, const N: usize>(&self, kind: &Table<T, N>, domain: i32) -> Check {
+        ensure(!self.closed, E_CTX)?;
+        ensure(kind.count < N, E_NOID)?;
+        ensure(domain == TDOM_KERNEL || domain == TDOM_NONE || self.is_user(domain), E_ID)
+    }
+
+    pub fn add_task(&mut self, domain: i32) -> Check {
+        self.check_entry(&self.tasks, domain)?;
+        ensure(domain != TDOM_NONE, E_ID)?;
+        self.tasks.add(Task { domain, ..NO_TASK });
+        Ok(())
+    }
+
+    pub fn add_semaphore(&mut self, domain: i32, atr: u32, start: u32, max: u32, vector: Option<Vector>) -> Check {
+        self.check_entry(&self.semaphores, domain)?;
+        ensure(atr == 0, E_RSATR)?;
+        ensure((1..=MAX_SEMAPHORE_COUNT).contains(&max) && start <= max, E_PAR)?;
+        let vector = vector.unwrap_or(Vector::default_of(domain));
+        self.semaphores.add(Semaphore { count: start, max, vector, ..NO_SEMAPHORE });
+        Ok(())
+    }
+
+    pub fn add_queue(&mut self, domain: i32, atr: u32, capacity: u32, vector: Option<Vector>) -> Check {
+        self.check_entry(&self.queues, domain)?;
+        ensure(atr == 0, E_RSATR)?;
+        ensure(capacity <= MAX_QUEUE_CAPACITY, E_PAR)?;
+        let start = self.words_used;
+        ensure(start + capacity <= MAX_WORDS as u32, E_NOMEM)?;
+        self.words_used += capacity;
+        let vector = vector.unwrap_or(Vector::default_of(domain));
+        self.queues.add(Queue { start, capacity, vector, ..NO_QUEUE });
+        Ok(())
+    }
+
+    pub fn add_region(&mut self, domain: i32, atr: u32, base: u32, size: u32, vector: Option<Vector>) -> Check {
+        self.check_entry(&self.regions, domain)?;
+        ensure(atr & !(TA_NOWRITE | TA_EXEC) == 0, E_RSATR)?;
+        let region = Region { base, size, atr, vector: vector.unwrap_or(Vector::default_of(domain)) };
+        ensure(size > 0 && region.end() <= ADDRESSES, E_PAR)?;
+        let end_before = self.regions.entries[..self.regions.count].last().map_or(0, Region::end);
+        ensure(u64::from(base) >= end_before, E_OBJ)?;
+        self.regions.add(region);
+        Ok(())
+    }
+
+    pub fn close(&mut self) -> Check {
+        ensure(!self.closed, E_CTX)?;
+        self.closed = true;
+        Ok(())
+    }
+}
+
+/// The calls.
+impl Kernel {
+    /// The checks before every call; gives the caller's and the object's index.
+    fn enter<T: Copy, const N: usize>(
+        &self,
+        caller: i32,
+        kind: &Table<T, N>,
+        id: i32,
+        pattern: impl Fn(&T) -> u32,
+    ) -> Result<(usize, usize), Er> {
+        let task = self.tasks.index(caller).map_err(|_| E_CTX)?;
+        ensure(self.closed && !self.tasks.entries[task].waiting, E_CTX)?;
+        let object = kind.index(id)?;
+        ensure(admits(pattern(&kind.entries[object]), self.tasks.entries[task].domain), E_OACV)?;
+        Ok((task, object))
+    }
+
+    pub fn sig_sem(&mut self, caller: i32, semid: i32) -> Result<Done, Er> {
+        let (_, sem) = self.enter(caller, &self.semaphores, semid, |s| s.vector.normal1)?;
+        let sem = &mut self.semaphores.entries[sem];
+        if let Some(waiter) = sem.waiters.release(&mut self.tasks.entries) {
+            return Ok(Done::releasing(waiter, 0));
+        }
+        ensure(sem.count < sem.max, E_QOVR)?;
+        sem.count += 1;
+        Ok(Done::OK)
+    }
+
+    fn take(&mut self, caller: i32, semid: i32, patient: bool) -> Result<Done, Er> {
+        let (task, sem) = self.enter(caller, &self.semaphores, semid, |s| s.vector.normal2)?;
+        let sem = &mut self.semaphores.entries[sem];
+        if sem.count > 0 {
+            sem.count -= 1;
+            return Ok(Done::OK);
+        }
+        ensure(patient, E_TMOUT)?;
+        sem.waiters.join(&mut self.tasks.entries, task);
+        Ok(Done::WAITING)
+    }
+
+    pub fn pol_sem(&mut self, caller: i32, semid: i32) -> Result<Done, Er> {
+        self.take(caller, semid, false)
+    }
+
+    pub fn wai_sem(&mut self, caller: i32, semid: i32) -> Result<Done, Er> {
+        self.take(caller, semid, true)
+    }
+
+    pub fn ref_sem(&self, caller: i32, semid: i32) -> Result<Referred, Er> {
+        let (_, sem) = self.enter(caller, &self.semaphores, semid, |s| s.vector.reference)?;
+        let Semaphore { waiters, count, vector, .. } = self.semaphores.entries[sem];
+        Ok(Referred { first_waiter: waiters.first.into(), first_receiver: 0, count, vector })
+    }
+
+    pub fn sac_sem(&mut self, caller: i32, semid: i32, vector: Vector) -> Result<Done, Er> {
+        let (_, sem) = self.enter(caller, &self.semaphores, semid, |s| s.vector.management)?;
+        self.semaphores.entries[sem].vector = vector;
+        Ok(Done::OK)
+    }
+
+    fn send(&mut self, caller: i32, dtqid: i32, word: u32, patient: bool) -> Result<Done, Er> {
+        let (task, queue) = self.enter(caller, &self.queues, dtqid, |q| q.vector.normal1)?;
+        let queue = &mut self.queues.entries[queue];
+        if let Some(receiver) = queue.receivers.release(&mut self.tasks.entries) {
+            return Ok(Done::releasing(receiver, word));
+        }
+        if queue.count < queue.capacity {
+            queue.push(&mut self.words, word);
+            return Ok(Done::OK);
+        }
+        ensure(patient, E_TMOUT)?;
+        self.tasks.entries[task].word = word;
+        queue.senders.join(&mut self.tasks.entries, task);
+        Ok(Done::WAITING)
+    }
+
+    pub fn psnd_dtq(&mut self, caller: i32, dtqid: i32, word: u32) -> Result<Done, Er> {
+        self.send(caller, dtqid, word, false)
+    }
+
+    pub fn snd_dtq(&mut self, caller: i32, dtqid: i32, word: u32) -> Result<Done, Er> {
+        self.send(caller, dtqid, word, true)
+    }
+
+    fn receive(&mut self, caller: i32, dtqid: i32, patient: bool) -> Result<Done, Er> {
+        let (task, queue) = self.enter(caller, &self.queues, dtqid, |q| q.vector.normal2)?;
+        let queue = &mut self.queues.entries[queue];
+        let oldest = (queue.count > 0).then(|| queue.pop(&self.words));
+        if let Some(sender) = queue.senders.release(&mut self.tasks.entries) {
+            let sent = self.tasks.entries[sender].word;
+            // With capacity 0 there is no oldest word, and the sender's own is handed out.
+            if oldest.is_some() {
+                queue.push(&mut self.words, sent);
+            }
+            return Ok(Done { word: oldest.unwrap_or(sent), ..Done::releasing(sender, 0) });
+        }
+        if let Some(word) = oldest {
+            return Ok(Done { word, ..Done::OK });
+        }
+        ensure(patient, E_TMOUT)?;
+        queue.receivers.join(&mut self.tasks.entries, task);
+        Ok(Done::WAITING)
+    }
+
+    pub fn prcv_dtq(&mut self, caller: i32, dtqid: i32) -> Result<Done, Er> {
+        self.receive(caller, dtqid, false)
+    }
+
+    pub fn rcv_dtq(&mut self, caller: i32, dtqid: i32) -> Result<Done, Er> {
+        self.receive(caller, dtqid, true)
+    }
+
+    pub fn ref_dtq(&self, caller: i32, dtqid: i32) -> Result<Referred, Er> {
+        let (_, queue) = self.enter(caller, &self.queues, dtqid, |q| q.vector.reference)?;
+        let Queue { senders, receivers, count, vector, .. } = self.queues.entries[queue];
+        Ok(Referred { first_waiter: senders.first.into(), first_receiver: receivers.first.into(), count, vector })
+    }
+
+    pub fn sac_dtq(&mut self, caller: i32, dtqid: i32, vector: Vector) -> Result<Done, Er> {
+        let (_, queue) = self.enter(caller, &self.queues, dtqid, |q| q.vector.management)?;
+        self.queues.entries[queue].vector = vector;
+        Ok(Done::OK)
+    }
+
+    /// The memory verdict: the first region that holds the base decides.
+    pub fn prb_mem(&self, domain: i32, base: u32, size: u32, wish: u32) -> Check {
+        ensure(self.closed, E_CTX)?;
+        ensure(domain == TDOM_KERNEL || self.is_user(domain), E_ID)?;
+        let end = u64::from(base) + u64::from(size);
+        ensure(size > 0 && wish != 0 && wish & !TPM_ALL == 0 && end <= ADDRESSES, E_PAR)?;
+        let regions = &self.regions.entries[..self.regions.count];
+        let region = regions.iter().find(|region| region.holds(base)).ok_or(E_NOEXS)?;
+        ensure(end <= region.end(), E_OBJ)?;
+        let write = region.atr & TA_NOWRITE == 0 && admits(region.vector.normal1, domain);
+        let read = admits(region.vector.normal2, domain);
+        let execute = read && region.atr & TA_EXEC != 0;
+        let granted = [(TPM_WRITE, write), (TPM_READ, read), (TPM_EXEC, execute)];
+        ensure(granted.iter().all(|&(asked, given)| given || wish & asked == 0), E_MACV)
+    }
+}

@@ -1,0 +1,69 @@
+//! The bench runs of document 01, on the ordinary kernel.
+
+use crate::plain::*;
+use crate::plain_runs::bench_table;
+
+const OK: Result<Done, Er> = Ok(Done::OK);
+const WAITS: Result<Done, Er> = Ok(Done::WAITING);
+
+fn done(word: u32, task: u32, task_word: u32) -> Result<Done, Er> {
+    let released = (task != 0).then_some(Released { task, word: task_word });
+    Ok(Done { waiting: false, word, released })
+}
+
+#[test]
+fn run_s() {
+    let mut k = Kernel::EMPTY;
+    bench_table(&mut k);
+    let moved = Vector::new(2, 2, 0, 3);
+    assert_eq!([k.pol_sem(1, 1), k.pol_sem(1, 1), k.wai_sem(1, 1)], [OK, Err(E_TMOUT), WAITS]);
+    assert_eq!([k.sig_sem(1, 1), k.sig_sem(2, 1)], [Err(E_CTX), Err(E_OACV)]);
+    assert_eq!([k.sac_sem(3, 1, moved), k.sig_sem(2, 1)], [OK, done(0, 1, 0)]);
+    assert_eq!(k.ref_sem(3, 1).map(|s| s.count), Ok(0));
+    assert_eq!(k.pol_sem(1, 1), Err(E_OACV));
+    assert_eq!([k.sig_sem(2, 1), k.sig_sem(2, 1), k.sig_sem(2, 1)], [OK, OK, Err(E_QOVR)]);
+    assert_eq!(k.ref_sem(1, 1), Ok(Referred { first_waiter: 0, first_receiver: 0, count: 2, vector: moved }));
+}
+
+#[test]
+fn run_q() {
+    let mut k = Kernel::EMPTY;
+    bench_table(&mut k);
+    assert_eq!(k.rcv_dtq(2, 1), Err(E_OACV));
+    assert_eq!([700, 701, 702].map(|w| k.psnd_dtq(1, 1, w)), [OK, OK, Err(E_TMOUT)]);
+    assert_eq!([k.snd_dtq(1, 1, 702), k.prcv_dtq(4, 1)], [WAITS, done(700, 1, 0)]);
+    assert_eq!([k.prcv_dtq(4, 1), k.prcv_dtq(4, 1)], [done(701, 0, 0), done(702, 0, 0)]);
+    assert_eq!([k.psnd_dtq(2, 2, 5), k.snd_dtq(2, 2, 5)], [Err(E_TMOUT), WAITS]);
+    assert_eq!(k.ref_dtq(3, 2).map(|q| (q.first_waiter, q.first_receiver, q.count)), Ok((2, 0, 0)));
+    assert_eq!(k.rcv_dtq(1, 2), done(5, 2, 0));
+}
+
+#[test]
+fn table_and_numbers() {
+    let mut k = Kernel::EMPTY;
+    assert_eq!([k.fresh(32), k.fresh(33), k.add_task(1)], [Ok(()), Err(E_PAR), Err(E_ID)]);
+    assert_eq!(k.add_semaphore(TDOM_NONE, 0, 0, 65_535, None), Ok(()));
+    assert_eq!([(0, 65_536), (2, 1)].map(|(start, max)| k.add_semaphore(-1, 0, start, max, None)), [Err(E_PAR); 2]);
+    assert_eq!([64; 8].map(|capacity| k.add_queue(TDOM_KERNEL, 0, capacity, None)), [Ok(()); 8]);
+    assert_eq!([1, 0].map(|capacity| k.add_queue(TDOM_KERNEL, 0, capacity, None)), [Err(E_NOMEM), Ok(())]);
+    assert_eq!([k.close(), k.close(), k.add_task(TDOM_KERNEL)], [Ok(()), Err(E_CTX), Err(E_CTX)]);
+    let mut k = Kernel::EMPTY;
+    bench_table(&mut k);
+    assert_eq!([-1, 0, 33].map(|id| k.sig_sem(1, id)), [Err(E_ID); 3]);
+    assert_eq!([(1, 2), (1, 32), (3, 2), (3, 32)].map(|(task, id)| k.sig_sem(task, id)), [Err(E_NOEXS); 4]);
+}
+
+#[test]
+fn regions() {
+    let mut k = Kernel::EMPTY;
+    assert_eq!(k.fresh(2), Ok(()));
+    assert_eq!(k.add_region(-1, TA_NOWRITE | TA_EXEC, 0x1000, 0x1000, Some(Vector::new(0, 3, 0, 3))), Ok(()));
+    assert_eq!(k.add_region(-1, 0, 0x1FFF, 0x1000, None), Err(E_OBJ));
+    assert_eq!(k.add_region(-1, 0, 0x2000, 0x1000, Some(Vector::new(1, 1, 0, 1))), Ok(()));
+    assert_eq!(k.close(), Ok(()));
+    let reads = |base, size| k.prb_mem(2, base, size, TPM_READ);
+    assert_eq!([reads(0x1FFF, 1), reads(0x1FFF, 2), reads(0x2000, 1)], [Ok(()), Err(E_OBJ), Err(E_MACV)]);
+    assert_eq!([reads(0x3000, 1), reads(0x3000, 0)], [Err(E_NOEXS), Err(E_PAR)]);
+    assert_eq!(k.prb_mem(TDOM_KERNEL, 0x1000, 1, TPM_WRITE), Err(E_MACV));
+    assert_eq!([reads(0xFFFF_FFFF, 1), reads(0xFFFF_FFFF, 2)], [Err(E_NOEXS), Err(E_PAR)]);
+}

@@ -1,0 +1,69 @@
+// The lists: runs S and Q of document 01, what is no call, answers without room.
+use crate::list::List;
+use crate::run::ANSWERS;
+use crate::run::show;
+use batch::request::POL_SEM;
+use batch::request::PRCV_DTQ;
+use batch::request::PSND_DTQ;
+use batch::request::RCV_DTQ;
+use batch::request::REF_SEM;
+use batch::request::SAC_SEM;
+use batch::request::SIG_SEM;
+use batch::request::SND_DTQ;
+use batch::request::WAI_SEM;
+
+pub fn run_s() {
+    let mut list = List::EMPTY;
+    list = list.with(POL_SEM, 1, 1, 0);
+    list = list.with(POL_SEM, 1, 1, 0);
+    list = list.with(WAI_SEM, 1, 1, 0);
+    list = list.with(SIG_SEM, 1, 1, 0);
+    list = list.with(SIG_SEM, 2, 1, 0);
+    list = list.with(SAC_SEM, 3, 1, 0).patterns(2, 0, 3);
+    list = list.with(SIG_SEM, 2, 1, 0);
+    list = list.with(POL_SEM, 1, 1, 0);
+    list = list.with(SIG_SEM, 2, 1, 0);
+    list = list.with(SIG_SEM, 2, 1, 0);
+    list = list.with(SIG_SEM, 2, 1, 0);
+    list = list.with(REF_SEM, 1, 1, 0);
+    show(b"S", list, ANSWERS);
+}
+
+pub fn run_q() {
+    let mut list = List::EMPTY;
+    list = list.with(RCV_DTQ, 2, 1, 0);
+    list = list.with(PSND_DTQ, 1, 1, 700);
+    list = list.with(PSND_DTQ, 1, 1, 701);
+    list = list.with(PSND_DTQ, 1, 1, 702);
+    list = list.with(SND_DTQ, 1, 1, 702);
+    list = list.with(PRCV_DTQ, 4, 1, 0);
+    list = list.with(PSND_DTQ, 2, 2, 5);
+    list = list.with(SND_DTQ, 2, 2, 5);
+    list = list.with(RCV_DTQ, 1, 2, 0);
+    show(b"\n\nQ", list, ANSWERS);
+}
+
+// The calls between them find the table as the one before left it.
+pub fn no_calls() {
+    let mut list = List::EMPTY;
+    list = list.with(0, 1, 1, 0);
+    list = list.with(POL_SEM, 1, 1, 0);
+    list = list.with(12, 1, 1, 0);
+    list = list.with(POL_SEM, 1, 1, 0);
+    list = list.with(u32::MAX, 1, 1, 0);
+    list = list.with(POL_SEM, 0, 1, 0);
+    list = list.with(POL_SEM, u32::MAX, 1, 0);
+    list = list.with(POL_SEM, 3, 0x8000_0000, 0);
+    list = list.longer(5);
+    show(b"\n\nNo calls", list, ANSWERS);
+}
+
+// Room for one answer and a half: the second call is not made.
+pub fn short_answers() {
+    let mut list = List::EMPTY;
+    list = list.with(POL_SEM, 1, 1, 0);
+    list = list.with(POL_SEM, 1, 1, 0);
+    show(b"\n\nAnswers without room", list, 16);
+    show(b"\n\nNo list", List::EMPTY, ANSWERS);
+    show(b"\n\nNo room", list, 0);
+}

@@ -1,0 +1,15 @@
+// Lists of calls as numbers, run on the bench table of document 01; of each answer its code, and what else is not 0.
+pub mod list;
+pub mod lists;
+pub mod print;
+pub mod run;
+
+use crate::print::text;
+
+fn main() {
+    lists::run_s();
+    lists::run_q();
+    lists::no_calls();
+    lists::short_answers();
+    text(b"\n");
+}

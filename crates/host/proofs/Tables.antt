@@ -1,0 +1,25 @@
+-- A run from a state that is seen as the bench table. Assumes nothing.
+use Prim.Native.Nat.{ℕ, _*_}
+use mathlib.Core.Path.{_≡_, ap, _∙_, sym, subst}
+use mathlib.Core.List.{List, _++_}
+use lib.ListN.{drop}
+use Rattle.model.specs.State as Model
+use Rattle.model.specs.History.{after, history}
+use Rattle.model.specs.Demand3.{Demand3}
+use Rattle.kernel.specs.declared.state.State.{State}
+use Rattle.kernel.specs.View.{viewOf}
+use Rattle.batch.specs.declared.run.Ran.{Ran}
+use Rattle.batch.specs.Encoding.{answerWords, answersOf}
+use Rattle.batch.specs.Runs.{itemsMade, callsMade, Runs}
+use Rattle.laws.specs.Starred.{bench}
+use Rattle.laws.proofs.Starred.{bench-just-closed}
+use Rattle.model.proofs.Demand3.{demand3}
+use Rattle.host.specs.Hosted.{Hosted}
+
+pub hosted : {s : State} {calls before behind : List ℕ} {r : Ran} → viewOf s ≡ bench → Runs s calls before behind r → Hosted calls before behind (r .answered)
+hosted {s} {calls} {before} {behind} {r} e h =
+    record {
+      answered = h .answered;
+      answers = h .answers ∙ ap (λ (m : Model.State). answersOf m (itemsMade calls before) ++ drop (r .answered * answerWords) before) e;
+      demand = demand3 bench bench-just-closed (callsMade calls before);
+    }
