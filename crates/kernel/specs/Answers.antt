@@ -4,6 +4,7 @@ use mathlib.Core.Bool.{Bool, not, _&&_}
 use mathlib.Core.Option.{Option, none, some}
 use lib.Dec.{ltb}
 use lib.IntN.{ℤ}
+use lib.ListN.{length}
 use Rattle.access.specs.Patterns.{pick}
 use Rattle.arrays.specs.Pad.{index}
 use Rattle.itron.specs.Codes.{Err, eCtx, eNoid, eId, numberOf}
@@ -22,6 +23,7 @@ use Rattle.kernel.specs.declared.state.Answer.{Answer}
 use Rattle.kernel.specs.declared.state.Entered.{Entered}
 use Rattle.kernel.specs.declared.sem.SemaphoreReport.{SemaphoreReport}
 use Rattle.kernel.specs.declared.dtq.QueueReport.{QueueReport}
+use Rattle.kernel.specs.declared.query.Summary.{Summary}
 use Rattle.kernel.specs.declared.check.Check.{Check}
 use Rattle.kernel.specs.declared.check.Check.the-variants.{Refused, Admitted}
 use Rattle.kernel.specs.Form.{stateOf}
@@ -65,3 +67,7 @@ checked none t n = Admitted (index t) (index n)
 -- steps 1 to 3 of an entry's checks
 abbrev pub opening : Bool → ℕ → ℕ → Bool → Option Err
 opening closed used most owned = refuseIf closed eCtx (refuseIf (not (ltb used most)) eNoid (refuseIf (not owned) eId none))
+
+-- ---- how large a table is
+abbrev pub summaryOf : Model.State → Summary
+summaryOf m = record { domains = m .fixed .count; closed = m .fixed .closed; tasks = length (m .fixed .domains); semaphores = length (m .sems); queues = length (m .queues); regions = length (m .fixed .regions) }

@@ -1,7 +1,7 @@
 // Read-only queries: what a dump of the state shows. Objects by number, from 1; what is not there is all zeros.
 ghost use mathlib.Core.Path.{_≡_};
 ghost use mathlib.Core.List.{map};
-ghost use lib.ListN.{length, getD};
+ghost use lib.ListN.{getD};
 ghost use Rattle.model.specs.Lists.{at};
 ghost use Rattle.model.specs.State.{semAt, queueAt, noRegion, place};
 ghost use Rattle.model.specs.Waits.{waitersAt};
@@ -10,6 +10,7 @@ ghost use Rattle.dataqueue.specs.View as QueuesView;
 ghost use Rattle.regions.specs.View as RegionsView;
 ghost use Rattle.kernel.specs.View.{viewOf};
 ghost use Rattle.kernel.specs.Valid.{Valid};
+ghost use Rattle.kernel.specs.Answers.{summaryOf};
 use crate::state::State;
 use dataqueue::state::QueueInfo;
 use model::Semaphore;
@@ -17,50 +18,33 @@ use model::Side;
 use regions::state::RegionInfo;
 use tasks::task::Task;
 
+// How large the table is: the number n of user domains, whether it is closed, and its entries by kind.
+pub struct Summary {
+    pub domains: usize,
+    pub closed: bool,
+    pub tasks: usize,
+    pub semaphores: usize,
+    pub queues: usize,
+    pub regions: usize,
+}
+
 impl State {
-    // The number n of user domains.
-    pub fn domains(self) -> usize
-        ensures { λ r. ⌜ r ≡ viewOf self .fixed .count ⌝ }
-    {
-        self.domains
-    }
-
-    pub fn closed(self) -> bool
-        ensures { λ r. ⌜ r ≡ viewOf self .fixed .closed ⌝ }
-    {
-        self.closed
-    }
-
-    pub fn task_count(self) -> usize
+    pub fn summary(self) -> Summary
         requires { ⌜ Valid self ⌝ }
-        ensures { λ r. ⌜ r ≡ length (viewOf self .fixed .domains) ⌝ }
+        ensures { λ r. ⌜ r ≡ summaryOf (viewOf self) ⌝ }
     {
         let tasks = self.tasks;
-        tasks.len()
-    }
-
-    pub fn semaphore_count(self) -> usize
-        requires { ⌜ Valid self ⌝ }
-        ensures { λ r. ⌜ r ≡ length (viewOf self .sems) ⌝ }
-    {
         let semaphores = self.semaphores;
-        semaphores.len()
-    }
-
-    pub fn queue_count(self) -> usize
-        requires { ⌜ Valid self ⌝ }
-        ensures { λ r. ⌜ r ≡ length (viewOf self .queues) ⌝ }
-    {
         let queues = self.queues;
-        queues.len()
-    }
-
-    pub fn region_count(self) -> usize
-        requires { ⌜ Valid self ⌝ }
-        ensures { λ r. ⌜ r ≡ length (viewOf self .fixed .regions) ⌝ }
-    {
         let regions = self.regions;
-        regions.len()
+        Summary {
+            domains: self.domains,
+            closed: self.closed,
+            tasks: tasks.len(),
+            semaphores: semaphores.len(),
+            queues: queues.len(),
+            regions: regions.len(),
+        }
     }
 
     // A task's domain and what it does.

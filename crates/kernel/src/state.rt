@@ -78,15 +78,29 @@ impl State {
         self.answer(reply)
     }
 
-    // A call's effect on the tasks and the data queues.
-    pub(crate) fn with_queues(mut self, effect: QueueEffect) -> Answer
+    // A call's effect on the tasks and the data queues. The state is made anew: measured, storing into it costs a copy of it more.
+    pub(crate) fn with_queues(self, effect: QueueEffect) -> Answer
         ensures { λ r. ⌜ r ≡ answered (effect .reply) (withQueues self (effect .tasks) (effect .queues)) ⌝ }
     {
         let tasks = effect.tasks;
         let queues = effect.queues;
         let reply = effect.reply;
-        self.tasks = tasks;
-        self.queues = queues;
-        self.answer(reply)
+        let outcome = reply.outcome;
+        let released = reply.released;
+        let semaphores = self.semaphores;
+        let regions = self.regions;
+        Answer {
+            outcome,
+            word: reply.word,
+            released,
+            state: State {
+                domains: self.domains,
+                closed: self.closed,
+                tasks,
+                semaphores,
+                queues,
+                regions,
+            },
+        }
     }
 }

@@ -170,11 +170,12 @@ pub enum Kind {
 pub fn count_of(state: State, kind: Kind) -> usize
     requires { ⌜ Valid state ⌝ }
 {
+    let summary = state.summary();
     match kind {
-        Kind::Tasks => state.task_count(),
-        Kind::Semaphores => state.semaphore_count(),
-        Kind::Queues => state.queue_count(),
-        Kind::Regions => state.region_count(),
+        Kind::Tasks => summary.tasks,
+        Kind::Semaphores => summary.semaphores,
+        Kind::Queues => summary.queues,
+        Kind::Regions => summary.regions,
     }
 }
 
@@ -193,11 +194,12 @@ pub fn put_object(out: &mut [u8; 4096], at: usize, state: State, kind: Kind, num
 pub fn put_counts(out: &mut [u8; 4096], at: usize, state: State) -> usize
     requires { ⌜ Valid state ⌝ }
 {
-    let at = put_named(out, at, b"n=", state.domains() as u64);
-    let at = put_named(out, at, b" closed=", state.closed() as u64);
-    let at = put_named(out, at, b" tasks=", count_of(state, Kind::Tasks) as u64);
-    let at = put_named(out, at, b" sems=", count_of(state, Kind::Semaphores) as u64);
-    let at = put_named(out, at, b" dtqs=", count_of(state, Kind::Queues) as u64);
-    let at = put_named(out, at, b" mems=", count_of(state, Kind::Regions) as u64);
+    let summary = state.summary();
+    let at = put_named(out, at, b"n=", summary.domains as u64);
+    let at = put_named(out, at, b" closed=", summary.closed as u64);
+    let at = put_named(out, at, b" tasks=", summary.tasks as u64);
+    let at = put_named(out, at, b" sems=", summary.semaphores as u64);
+    let at = put_named(out, at, b" dtqs=", summary.queues as u64);
+    let at = put_named(out, at, b" mems=", summary.regions as u64);
     put_byte(out, at, LF)
 }
