@@ -1,21 +1,25 @@
 -- Document 01's sentences as laws of the definitions: each shuts wrong definitions out. Assumes nothing.
 use Prim.Native.Nat.{ℕ, zero, suc, _+_, _-_, _^_, _/_, _%_, _≤_, _<_}
 use native.Mathlib.Omega.{arith}
-use native.Mathlib.Nat.{zero-div, div-one, div-self, pow-suc}
+use native.Mathlib.Nat.{add-zero, zero-div, div-one, div-self, pow-suc}
 use native.Mathlib.Numerals.{one-add, add-one}
 use mathlib.Core.Path.{_≡_, refl, sym, ap, _∙_}
 use mathlib.Core.Bool.{Bool, true, false, _&&_}
 use mathlib.Core.Logic.{_⊎_, inl, inr}
-use lib.IntN.{ℤ, pos, negsuc}
+use lib.IntN.{ℤ, pos, negsuc, negℤ}
 use lib.Dec.{eqb, ltb}
 use lib.Pow.{pow-pos, shr-shr, field, mod-mod-pow}
-use borrow.Author.Tests.{lt-ltb, ltb-true, ltb-false, eqb-true}
+use borrow.Author.Tests.{lt-ltb, le-leb, lt-leb, ltb-true, ltb-false, eqb-true}
 use Rattle.itron.specs.Limits.{maxDomains}
+use Rattle.access.specs.declared.vector.Vector.{Vector}
+use Rattle.access.specs.declared.vector.Choice.the-variants.{Default, Given}
 use Rattle.access.specs.declared.vector.Operation.{Operation}
 use Rattle.access.specs.declared.vector.Operation.the-variants.{Normal1, Normal2, Management, Reference}
+use Rattle.access.specs.declared.audit.Admissions.{Admissions}
+use Rattle.access.specs.declared.audit.AuditReport.{AuditReport}
 use Rattle.access.specs.Patterns.{pick, allZeros, allOnes, admitted}
-use Rattle.access.specs.Vectors.{patternOf, uniform, privateOf, defaultOf}
-use Rattle.access.specs.Audits.{countTo, orElse, lowestTo, admissionsOf, noAdmissions}
+use Rattle.access.specs.Vectors.{patternOf, uniform, privateOf, defaultOf, resolved}
+use Rattle.access.specs.Audits.{countTo, orElse, lowestTo, admissionsOf, noAdmissions, auditOf}
 use Rattle.access.proofs.Patterns.{admitted-bit}
 
 -- ---- bits
@@ -86,6 +90,10 @@ bit-only k (negsuc (suc j)) h = absurd (never h)
 bit-only k (pos zero) h = absurd (never h)
 bit-only k (pos (suc j)) h = inr (ap (λ (i : ℕ). pos (suc i)) (power-bit j k (eqb-true _ 1 (both (ltb j maxDomains) _ h))))
 
+-- "Bits for domains above n are accepted and admit nobody": no domain from 1 to n needs them, and there are no others
+pub above-unused : (p n k : ℕ) → n ≤ maxDomains → k < n → admitted (p % 2 ^ n) (pos (suc k)) ≡ admitted p (pos (suc k))
+above-unused p n k h l = admitted-bit (p % 2 ^ n) k (omega arith) ∙ ap (λ (b : ℕ). eqb b 1) (low-bit p n k l) ∙ sym (admitted-bit p k (omega arith))
+
 -- ---- vectors
 
 -- the same pattern four times judges every kind of operation alike
@@ -110,6 +118,13 @@ private-only (pos (suc k)) z o h = go (ltb k maxDomains) (sym (uniform-admits (p
     go true e = bit-only k z e
     go false e = inl (zeros-kernel-only z e)
 
+-- an entry with a vector keeps it "as given"; "An entry without a vector takes the default"
+pub given-kept : (d : ℤ) (v : Vector) → resolved d (Given v) ≡ v
+given-kept d v = refl
+
+pub default-taken : (d : ℤ) → resolved d Default ≡ defaultOf d
+default-taken d = refl
+
 -- "kernel only for the kernel domain, private for a user domain, shared for -2"
 pub default-kernel-only : (z : ℤ) (o : Operation) → admitted (patternOf (defaultOf (negsuc 0)) o) z ≡ true → z ≡ negsuc 0
 default-kernel-only z o h = zeros-kernel-only z (sym (uniform-admits allZeros o z) ∙ h)
@@ -121,6 +136,15 @@ pub default-everybody : (k : ℕ) (o : Operation) → k < maxDomains → admitte
 default-everybody k o h = uniform-admits allOnes o (pos (suc k)) ∙ ones-shared k h
 
 -- ---- audit
+
+-- "how many user domains it admits": each admitted one counts, and no other
+pub count-admitted : (p k : ℕ) → admitted p (pos (suc k)) ≡ true → countTo p (suc k) ≡ suc (countTo p k)
+unfolding countTo
+count-admitted p k h = rw h (add-one (countTo p k))
+
+pub count-denied : (p k : ℕ) → admitted p (pos (suc k)) ≡ false → countTo p (suc k) ≡ countTo p k
+unfolding countTo
+count-denied p k h = rw h (add-zero (countTo p k))
 
 -- "how many": of n, at most n; of a shared pattern all n, and the lowest is 1
 one-most : (b : Bool) → pick b 1 0 ≤ 1
@@ -190,7 +214,7 @@ audit-same p q (suc n) f =
 
 -- "bits above n are left out"
 pub above-left-out : (p n : ℕ) → n ≤ maxDomains → admissionsOf (p % 2 ^ n) n ≡ admissionsOf p n
-above-left-out p n h = audit-same (p % 2 ^ n) p n (λ k l. admitted-bit (p % 2 ^ n) k (omega arith) ∙ ap (λ (b : ℕ). eqb b 1) (low-bit p n k l) ∙ sym (admitted-bit p k (omega arith)))
+above-left-out p n h = audit-same (p % 2 ^ n) p n (λ k l. above-unused p n k h l)
 
 -- "with nobody admitted both numbers are 0"
 pub nobody-admitted : (p n : ℕ) → ((k : ℕ) → k < n → admitted p (pos (suc k)) ≡ false) → admissionsOf p n ≡ noAdmissions
@@ -200,3 +224,24 @@ nobody-admitted p (suc n) f =
     let e = nobody-admitted p n (λ k h. f k (omega arith)) in
     let a = f n (omega arith) in
     λ i. record { count = e i .count + pick (a i) 1 0; lowest = orElse (e i .lowest) (pick (a i) (suc n) 0) }
+
+-- "takes a vector and n .. and tells for each pattern how many .. and the lowest"
+pub audit-tells : (v : Vector) (n : ℕ) → n ≤ maxDomains
+    → auditOf v (pos n) ≡ record { code = pos 0; normal1 = admissionsOf (v .normal1) n; normal2 = admissionsOf (v .normal2) n; management = admissionsOf (v .management) n; reference = admissionsOf (v .reference) n }
+unfolding auditOf
+audit-tells v n h = rw (le-leb n maxDomains h)
+
+-- "outside 0 to 32: E_PAR, all numbers 0"
+abbrev zeros : Admissions
+zeros = record { count = 0; lowest = 0 }
+
+abbrev pub refusedBy : ℤ → AuditReport
+refusedBy z = record { code = z; normal1 = zeros; normal2 = zeros; management = zeros; reference = zeros }
+
+pub audit-above : (v : Vector) (n : ℕ) → maxDomains < n → auditOf v (pos n) ≡ refusedBy (negℤ (pos 17))
+unfolding auditOf
+audit-above v n h = rw (lt-leb n maxDomains h)
+
+pub audit-below : (v : Vector) (k : ℕ) → auditOf v (negsuc k) ≡ refusedBy (negℤ (pos 17))
+unfolding auditOf
+audit-below v k = refl

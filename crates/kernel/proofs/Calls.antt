@@ -5,6 +5,8 @@ use mathlib.Core.Path.{_≡_, refl, sym, ap, _∙_}
 use mathlib.Core.Logic.{_≢_}
 use mathlib.Core.Option.{Option, none, some}
 use lib.IntN.{ℤ}
+use mir.Syntax.{w32}
+use mir.Val.{toZ, ofZ}
 use Rattle.access.specs.declared.vector.Vector.{Vector}
 use Rattle.arrays.specs.Pad.{index}
 use Rattle.itron.specs.Codes.{Err, numberOf, okNumber}
@@ -17,6 +19,7 @@ use Rattle.model.specs.Semaphores as Semaphores
 use Rattle.model.specs.Queues as Queues
 use Rattle.model.specs.Calls.{Op, refer, setVector, call, no, check, numberIn, kindOf, operationOf, onSemaphores, onQueues, infoOf, tells, setVectorOf, act, actIf, step, registered}
 use Rattle.model.specs.declared.Kind.the-variants.{Semaphore as semaphore, Queue as queue}
+use Rattle.model.specs.declared.Reply.{Reply}
 use Rattle.model.proofs.Cover.{passed}
 use Rattle.tasks.specs.Form.{tasksAs}
 use Rattle.tasks.specs.Held.{Free}
@@ -31,12 +34,15 @@ use Rattle.dataqueue.specs.Form.{queuesAs}
 use Rattle.dataqueue.specs.Effects as QueueEffects
 use Rattle.dataqueue.specs.declared.state.Queues as QueueState
 use Rattle.kernel.specs.declared.state.State.{State}
+use Rattle.kernel.specs.declared.state.Answer.{Answer}
 use Rattle.kernel.specs.declared.sem.SemaphoreReport.{SemaphoreReport}
 use Rattle.kernel.specs.declared.dtq.QueueReport.{QueueReport}
 use Rattle.kernel.specs.declared.check.Check.{Check}
 use Rattle.kernel.specs.declared.check.Check.the-variants.{Refused, Admitted}
 use Rattle.kernel.specs.View.{viewOf}
 use Rattle.kernel.specs.Valid.{Valid}
+use Rattle.kernel.specs.Promises.{Does}
+use Rattle.kernel.proofs.Back.{promise}
 use Rattle.kernel.specs.Answers.{answered, answerOf, semaphoreReportOf, queueReportOf, withSemaphores, withQueues, checked}
 
 -- what the checks give for a call
@@ -91,21 +97,21 @@ admission s z op t o e = go (check (viewOf s) (no z) (operationOf op) (no (numbe
 
 -- ---- the parts put back
 module _ {s : State} (v : Valid s) where
-  pub refused : (z : ℤ) (op : Op) (code : ℤ) → checkOf s z op ≡ Refused code → answered (plain code 0) s ≡ answerOf (step (viewOf s) (call z op))
+  refused : (z : ℤ) (op : Op) (code : ℤ) → checkOf s z op ≡ Refused code → answered (plain code 0) s ≡ answerOf (step (viewOf s) (call z op))
   refused z op code e =
       let r = refusal s z op code e in
       let n = r .number in
       let f = v .form in
       (λ i. answered (plain (n i) 0) (f i)) ∙ ap answerOf (r .step)
 
-  pub on-semaphores : (e : Answers.Effect Sem) (x : SemaphoreEffect.Effect) → x ≡ SemaphoreEffects.effectAs (viewOf s .fixed .domains) e
+  on-semaphores : (e : Answers.Effect Sem) (x : SemaphoreEffect.Effect) → x ≡ SemaphoreEffects.effectAs (viewOf s .fixed .domains) e
       → answered (x .reply) (withSemaphores s (x .tasks) (x .semaphores)) ≡ answerOf (onSemaphores (viewOf s) e)
   on-semaphores e x h =
       let f = v .form in
       ap (λ (y : SemaphoreEffect.Effect). answered (y .reply) (withSemaphores s (y .tasks) (y .semaphores))) h
       ∙ (λ i. answered (replyOf (e .answer)) (record { domains = s .domains; closed = s .closed; tasks = tasksAs (viewOf s .fixed .domains) (e .waits); semaphores = semsAs (e .records); queues = f i .queues; regions = f i .regions }))
 
-  pub on-queues : (e : Answers.Effect Queue) (x : QueueEffect.Effect) → x ≡ QueueEffects.effectAs (viewOf s .fixed .domains) e
+  on-queues : (e : Answers.Effect Queue) (x : QueueEffect.Effect) → x ≡ QueueEffects.effectAs (viewOf s .fixed .domains) e
       → answered (x .reply) (withQueues s (x .tasks) (x .queues)) ≡ answerOf (onQueues (viewOf s) e)
   on-queues e x h =
       let f = v .form in
@@ -113,17 +119,50 @@ module _ {s : State} (v : Valid s) where
       ∙ (λ i. answered (replyOf (e .answer)) (record { domains = s .domains; closed = s .closed; tasks = tasksAs (viewOf s .fixed .domains) (e .waits); semaphores = f i .semaphores; queues = queuesAs (e .records); regions = f i .regions }))
 
   -- set-vector
-  pub sets-semaphores : (i : ℕ) (u : Vector) (x : SemaphoreState.Semaphores) → x ≡ semsAs (Semaphores.setVector (viewOf s .sems) i u)
+  sets-semaphores : (i : ℕ) (u : Vector) (x : SemaphoreState.Semaphores) → x ≡ semsAs (Semaphores.setVector (viewOf s .sems) i u)
       → answered (plain okNumber 0) (withSemaphores s (s .tasks) x) ≡ answerOf (Answers.done (setVectorOf (viewOf s) semaphore i u))
   sets-semaphores i u x h =
       let f = v .form in
       λ j. answered (plain okNumber 0) (record { domains = s .domains; closed = s .closed; tasks = f j .tasks; semaphores = h j; queues = f j .queues; regions = f j .regions })
 
-  pub sets-queues : (i : ℕ) (u : Vector) (x : QueueState.Queues) → x ≡ queuesAs (Queues.setVector (viewOf s .queues) i u)
+  sets-queues : (i : ℕ) (u : Vector) (x : QueueState.Queues) → x ≡ queuesAs (Queues.setVector (viewOf s .queues) i u)
       → answered (plain okNumber 0) (withQueues s (s .tasks) x) ≡ answerOf (Answers.done (setVectorOf (viewOf s) queue i u))
   sets-queues i u x h =
       let f = v .form in
       λ j. answered (plain okNumber 0) (record { domains = s .domains; closed = s .closed; tasks = f j .tasks; semaphores = f j .semaphores; queues = h j; regions = f j .regions })
+
+-- ---- what a call by z promises: it is refused, acts on an object, or sets an object's vector
+module _ {s : State} (v : Valid s) (z : ℤ) (op : Op) where
+  pub refuses : {r : Answer} (d : ℤ) → checkOf s z op ≡ Refused d → toZ w32 (ofZ w32 d) ≡ d → r ≡ answered (plain (toZ w32 (ofZ w32 d)) 0) s → Does s (call z op) r
+  refuses d h e q = promise v (call z op) (q ∙ ap (λ (x : ℤ). answered (plain x 0) s) e ∙ refused v z op d h)
+
+  pub on-semaphore : {t o : ℕ} {x : SemaphoreEffect.Effect} {r : Answer} (f : ℕ → Answers.Effect Sem) → Admission s z op t o
+      → onSemaphores (viewOf s) (f (no (numberIn op))) ≡ act (viewOf s) (suc t) op
+      → x ≡ SemaphoreEffects.effectAs (viewOf s .fixed .domains) (f (suc o)) → r ≡ answered (x .reply) (withSemaphores s (x .tasks) (x .semaphores)) → Does s (call z op) r
+  on-semaphore {o} {x} f a h e q =
+      promise v (call z op) (q ∙ on-semaphores v (f (suc o)) x e ∙ ap (λ (n : ℕ). answerOf (onSemaphores (viewOf s) (f n))) (sym (a .object)) ∙ ap answerOf (h ∙ a .acts))
+
+  pub on-queue : {t o : ℕ} {x : QueueEffect.Effect} {r : Answer} (f : ℕ → Answers.Effect Queue) → Admission s z op t o
+      → onQueues (viewOf s) (f (no (numberIn op))) ≡ act (viewOf s) (suc t) op
+      → x ≡ QueueEffects.effectAs (viewOf s .fixed .domains) (f (suc o)) → r ≡ answered (x .reply) (withQueues s (x .tasks) (x .queues)) → Does s (call z op) r
+  on-queue {o} {x} f a h e q =
+      promise v (call z op) (q ∙ on-queues v (f (suc o)) x e ∙ ap (λ (n : ℕ). answerOf (onQueues (viewOf s) (f n))) (sym (a .object)) ∙ ap answerOf (h ∙ a .acts))
+
+  pub sets-semaphore : {t o : ℕ} {x : SemaphoreState.Semaphores} {p : Reply} {r : Answer} (u : Vector) → Admission s z op t o
+      → Answers.done (setVectorOf (viewOf s) semaphore (no (numberIn op)) u) ≡ act (viewOf s) (suc t) op
+      → x ≡ semsAs (Semaphores.setVector (viewOf s .sems) (suc o) u) → p ≡ plain okNumber 0 → r ≡ answered p (withSemaphores s (s .tasks) x) → Does s (call z op) r
+  sets-semaphore {o} {x} u a h e g q =
+      promise v (call z op)
+      (q ∙ ap (λ (y : Reply). answered y (withSemaphores s (s .tasks) x)) g ∙ sets-semaphores v (suc o) u x e
+      ∙ ap (λ (n : ℕ). answerOf (Answers.done (setVectorOf (viewOf s) semaphore n u))) (sym (a .object)) ∙ ap answerOf (h ∙ a .acts))
+
+  pub sets-queue : {t o : ℕ} {x : QueueState.Queues} {p : Reply} {r : Answer} (u : Vector) → Admission s z op t o
+      → Answers.done (setVectorOf (viewOf s) queue (no (numberIn op)) u) ≡ act (viewOf s) (suc t) op
+      → x ≡ queuesAs (Queues.setVector (viewOf s .queues) (suc o) u) → p ≡ plain okNumber 0 → r ≡ answered p (withQueues s (s .tasks) x) → Does s (call z op) r
+  sets-queue {o} {x} u a h e g q =
+      promise v (call z op)
+      (q ∙ ap (λ (y : Reply). answered y (withQueues s (s .tasks) x)) g ∙ sets-queues v (suc o) u x e
+      ∙ ap (λ (n : ℕ). answerOf (Answers.done (setVectorOf (viewOf s) queue n u))) (sym (a .object)) ∙ ap answerOf (h ∙ a .acts))
 
 -- ---- refer
 abbrev pub semaphoreReport : ℤ → ℕ → ℕ → Vector → State → SemaphoreReport

@@ -92,7 +92,7 @@ owner-tells n (negsuc zero) = always-tells
 owner-tells n (negsuc (suc zero)) = always-tells
 owner-tells n (negsuc (suc (suc k))) = never-tells
 
-task-owner-tells : (n : ℕ) (d : ℤ) → Tells (ownsTask n d) (TaskOwner n d)
+pub task-owner-tells : (n : ℕ) (d : ℤ) → Tells (ownsTask n d) (TaskOwner n d)
 task-owner-tells n (pos d) = and-tells (not-tells (eq-tells d 0)) (le-tells d n)
 task-owner-tells n (negsuc zero) = always-tells
 task-owner-tells n (negsuc (suc k)) = never-tells

@@ -13,3 +13,8 @@ pub mod Verdict
 pub mod Entries
 pub mod Bounds
 pub mod Refers
+pub mod Numbers
+pub mod Replies
+pub mod Places
+pub mod Teeth
+pub mod Owners

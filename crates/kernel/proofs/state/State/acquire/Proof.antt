@@ -1,17 +1,14 @@
 use borrow.Author.Needs.{needs}
-use Prim.Native.Nat.{ℕ, suc}
-use mathlib.Core.Path.{_≡_, sym, ap, _∙_}
-use lib.IntN.{ℤ}
+use Prim.Native.Nat.{suc}
+use mathlib.Core.Path.{_≡_, refl, sym, _∙_}
 use mir.Syntax.{w32}
 use mir.Val.{toZ, ofZ}
 use mir.Facts.{toZ-ofZ}
-use Rattle.model.specs.Answers.{plain}
 use Rattle.model.specs.Calls as Model
 use Rattle.kernel.specs.View.{viewOf}
-use Rattle.kernel.specs.Answers.{answered, answerOf}
 use Rattle.model.specs.Semaphores as Effects
-use Rattle.kernel.proofs.Back.{tasks-held, sems-held, promise}
-use Rattle.kernel.proofs.Calls.{checkOf, refused, Admission, admission, on-semaphores}
+use Rattle.kernel.proofs.Back.{tasks-held, sems-held}
+use Rattle.kernel.proofs.Calls.{checkOf, Admission, admission, refuses, on-semaphore}
 use Rattle.kernel.proofs.state.State.acquire.Statement.{statement}
 use Rattle.kernel.proofs.state.State.acquire.Tie as tie
 
@@ -50,19 +47,14 @@ returns c =
     let a = b .args in
     let d = p .code .given .0 .0 in
     let e : toZ w32 (ofZ w32 d) ≡ d = search needs in
-    promise (b .pre) _ (c .refuse .ensures ∙ ap (λ (z : ℤ). answered (plain z 0) (a .self)) e ∙ refused (b .pre) (a .caller) (Model.acquire (a .patience) (a .id)) d (checks (p .before .before) ∙ p .code .given .1))
+    refuses (b .pre) (a .caller) (Model.acquire (a .patience) (a .id)) d (checks (p .before .before) ∙ p .code .given .1) e (c .refuse .ensures)
 
 returns-2 : tie.Need-returns-2
 returns-2 c =
     let p = c .before .before .before .before .before in
-    let b = c .before .before .before .before .before .before .before .before in
+    let b = p .before .before .before in
     let a = b .args in
-    let x = admits p in
-    promise (b .pre) _
-    (c .with-semaphores .ensures
-    ∙ on-semaphores (b .pre) (Effects.acquire (viewOf (a .self) .waits) (viewOf (a .self) .sems) (suc (p .task .given .0 .0)) (suc (p .task .given .0 .1 .0)) (a .patience)) _ (c .before .acquire .ensures)
-    ∙ ap (λ (n : ℕ). answerOf (Model.onSemaphores (viewOf (a .self)) (Effects.acquire (viewOf (a .self) .waits) (viewOf (a .self) .sems) (suc (p .task .given .0 .0)) n (a .patience)))) (sym (x .object))
-    ∙ ap answerOf (x .acts))
+    on-semaphore (b .pre) (a .caller) (Model.acquire (a .patience) (a .id)) (λ n. Effects.acquire (viewOf (a .self) .waits) (viewOf (a .self) .sems) (suc (p .task .given .0 .0)) n (a .patience)) (admits p) refl (c .before .acquire .ensures) (c .with-semaphores .ensures)
 
 pub acquire-spec : {M : Type 1} → statement M
 acquire-spec =

@@ -1,20 +1,13 @@
 use borrow.Author.Needs.{needs}
-use Prim.Native.Nat.{ℕ, suc}
-use mathlib.Core.Path.{_≡_, sym, ap, _∙_}
-use lib.IntN.{ℤ}
+use mathlib.Core.Path.{_≡_, refl, sym, _∙_}
 use mir.Syntax.{w32}
 use mir.Val.{toZ, ofZ}
 use mir.Facts.{toZ-ofZ}
 use Rattle.model.specs.Answers.{plain}
 use Rattle.model.specs.Calls as Model
-use Rattle.kernel.specs.View.{viewOf}
-use Rattle.kernel.specs.Answers.{answered, answerOf}
-use Rattle.model.specs.Answers.{done}
-use Rattle.model.specs.declared.Reply.{Reply}
 use Rattle.model.specs.declared.Kind.the-variants.{Semaphore}
-use Rattle.kernel.specs.Answers.{withSemaphores}
-use Rattle.kernel.proofs.Back.{sems-held, promise}
-use Rattle.kernel.proofs.Calls.{checkOf, refused, Admission, admission, sets-semaphores}
+use Rattle.kernel.proofs.Back.{sems-held}
+use Rattle.kernel.proofs.Calls.{checkOf, Admission, admission, refuses, sets-semaphore}
 use Rattle.kernel.proofs.state.State.sac_sem.Statement.{statement}
 use Rattle.kernel.proofs.state.State.sac_sem.Tie as tie
 
@@ -56,22 +49,14 @@ returns c =
     let a = b .args in
     let d = p .code .given .0 .0 in
     let e : toZ w32 (ofZ w32 d) ≡ d = search needs in
-    promise (b .pre) _ (c .refuse .ensures ∙ ap (λ (z : ℤ). answered (plain z 0) (a .self)) e ∙ refused (b .pre) (a .caller) (Model.setVector Semaphore (a .id) (a .vector)) d (checks (p .before .before) ∙ p .code .given .1))
+    refuses (b .pre) (a .caller) (Model.setVector Semaphore (a .id) (a .vector)) d (checks (p .before .before) ∙ p .code .given .1) e (c .refuse .ensures)
 
 returns-2 : tie.Need-returns-2
 returns-2 c =
     let p = c .before .before .before .before .before in
-    let b = c .before .before .before .before .before .before .before .before in
+    let b = p .before .before .before in
     let a = b .args in
-    let x = admits p in
-    let o = p .object .given .0 .1 .0 in
-    let n = c .before .before .set-vector .result in
-    promise (b .pre) _
-    (c .answer .ensures
-    ∙ ap (λ (r : Reply). answered r (withSemaphores (a .self) (a .self .tasks) n)) (c .before .plain .ensures)
-    ∙ sets-semaphores (b .pre) (suc o) (a .vector) n (c .before .before .set-vector .ensures)
-    ∙ ap (λ (k : ℕ). answerOf (done (Model.setVectorOf (viewOf (a .self)) Semaphore k (a .vector)))) (sym (x .object))
-    ∙ ap answerOf (x .acts))
+    sets-semaphore (b .pre) (a .caller) (Model.setVector Semaphore (a .id) (a .vector)) (a .vector) (admits p) refl (c .before .before .set-vector .ensures) (c .before .plain .ensures) (c .answer .ensures)
 
 pub sac-sem-spec : {M : Type 1} → statement M
 sac-sem-spec =

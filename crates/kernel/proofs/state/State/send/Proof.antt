@@ -1,17 +1,14 @@
 use borrow.Author.Needs.{needs}
-use Prim.Native.Nat.{ℕ, suc}
-use mathlib.Core.Path.{_≡_, sym, ap, _∙_}
-use lib.IntN.{ℤ}
+use Prim.Native.Nat.{suc}
+use mathlib.Core.Path.{_≡_, refl, sym, _∙_}
 use mir.Syntax.{w32}
 use mir.Val.{toZ, ofZ}
 use mir.Facts.{toZ-ofZ}
-use Rattle.model.specs.Answers.{plain}
 use Rattle.model.specs.Calls as Model
 use Rattle.kernel.specs.View.{viewOf}
-use Rattle.kernel.specs.Answers.{answered, answerOf}
 use Rattle.model.specs.Queues as Effects
-use Rattle.kernel.proofs.Back.{tasks-held, queues-held, promise}
-use Rattle.kernel.proofs.Calls.{checkOf, refused, Admission, admission, on-queues}
+use Rattle.kernel.proofs.Back.{tasks-held, queues-held}
+use Rattle.kernel.proofs.Calls.{checkOf, Admission, admission, refuses, on-queue}
 use Rattle.kernel.proofs.state.State.send.Statement.{statement}
 use Rattle.kernel.proofs.state.State.send.Tie as tie
 
@@ -50,19 +47,14 @@ returns c =
     let a = b .args in
     let d = p .code .given .0 .0 in
     let e : toZ w32 (ofZ w32 d) ≡ d = search needs in
-    promise (b .pre) _ (c .refuse .ensures ∙ ap (λ (z : ℤ). answered (plain z 0) (a .self)) e ∙ refused (b .pre) (a .caller) (Model.send (a .patience) (a .id) (a .word)) d (checks (p .before .before) ∙ p .code .given .1))
+    refuses (b .pre) (a .caller) (Model.send (a .patience) (a .id) (a .word)) d (checks (p .before .before) ∙ p .code .given .1) e (c .refuse .ensures)
 
 returns-2 : tie.Need-returns-2
 returns-2 c =
     let p = c .before .before .before .before .before in
-    let b = c .before .before .before .before .before .before .before .before in
+    let b = p .before .before .before in
     let a = b .args in
-    let x = admits p in
-    promise (b .pre) _
-    (c .with-queues .ensures
-    ∙ on-queues (b .pre) (Effects.send (viewOf (a .self) .waits) (viewOf (a .self) .queues) (suc (p .task .given .0 .0)) (suc (p .task .given .0 .1 .0)) (a .word) (a .patience)) _ (c .before .send .ensures)
-    ∙ ap (λ (n : ℕ). answerOf (Model.onQueues (viewOf (a .self)) (Effects.send (viewOf (a .self) .waits) (viewOf (a .self) .queues) (suc (p .task .given .0 .0)) n (a .word) (a .patience)))) (sym (x .object))
-    ∙ ap answerOf (x .acts))
+    on-queue (b .pre) (a .caller) (Model.send (a .patience) (a .id) (a .word)) (λ n. Effects.send (viewOf (a .self) .waits) (viewOf (a .self) .queues) (suc (p .task .given .0 .0)) n (a .word) (a .patience)) (admits p) refl (c .before .send .ensures) (c .with-queues .ensures)
 
 pub send-spec : {M : Type 1} → statement M
 send-spec =
