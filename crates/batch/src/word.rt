@@ -6,7 +6,7 @@ ghost use mir.Val.{toZ, ofZ};
 const LARGEST_SIGNED: u32 = 2_147_483_647;
 
 // The signed number that a word stands for.
-pub(crate) fn signed(word: u32) -> i32
+pub fn signed(word: u32) -> i32
     ensures { λ r. ⌜ r ≡ toZ w32 word ⌝ }
 {
     if word <= LARGEST_SIGNED {

@@ -1,15 +1,15 @@
 // The calls on a closed table, each with its line.
 ghost use Rattle.kernel.specs.Valid.{Valid};
 use crate::names;
-use crate::print::address;
-use crate::print::named;
-use crate::print::signed;
-use crate::print::text;
 use crate::say::patterns;
 use crate::say::say;
 use crate::say::say_semaphore;
 use access::vector::Vector;
 use kernel::state::State;
+use text::print::address;
+use text::print::named;
+use text::print::signed;
+use text::print::text;
 
 fn label(task: i32, does: &[u8], id: i32) {
     text(b"\n  task ");

@@ -1,9 +1,5 @@
 // Building a table, each step with its line.
 ghost use Rattle.kernel.specs.Valid.{Valid};
-use crate::print::address;
-use crate::print::named;
-use crate::print::signed;
-use crate::print::text;
 use crate::say::patterns;
 use crate::say::say_entered;
 use access::vector::Choice;
@@ -12,6 +8,10 @@ use dataqueue::entry::QueueEntry;
 use kernel::state::State;
 use regions::entry::RegionEntry;
 use semaphore::entry::SemaphoreEntry;
+use text::print::address;
+use text::print::named;
+use text::print::signed;
+use text::print::text;
 
 pub fn vector(normal1: u32, normal2: u32, management: u32, reference: u32) -> Vector {
     Vector {

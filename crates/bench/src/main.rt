@@ -2,13 +2,12 @@
 pub mod calls;
 pub mod entries;
 pub mod names;
-pub mod print;
 pub mod runs;
 pub mod say;
 pub mod slips;
 pub mod table;
 
-use crate::print::text;
+use text::print::text;
 
 fn main() {
     text(

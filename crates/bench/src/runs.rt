@@ -11,11 +11,11 @@ use crate::calls::sig_sem;
 use crate::calls::snd_dtq;
 use crate::calls::wai_sem;
 use crate::entries::vector;
-use crate::print::heading;
 use access::domain::KERNEL_DOMAIN;
 use kernel::state::State;
 use regions::flag::READ;
 use regions::flag::WRITE;
+use text::print::heading;
 
 pub fn s(mut s: State)
     requires { ⌜ Valid s ⌝ }

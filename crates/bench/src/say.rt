@@ -1,14 +1,14 @@
 // How answers are told: a code or `waiting`, then a call's word and released task where they are not 0.
 ghost use Rattle.kernel.specs.Valid.{Valid};
 use crate::names;
-use crate::print::named;
-use crate::print::text;
 use access::vector::Vector;
 use kernel::state::Answer;
 use kernel::state::Entered;
 use kernel::state::State;
 use model::Outcome;
 use model::Released;
+use text::print::named;
+use text::print::text;
 
 // A vector, after whatever names it.
 pub fn patterns(name: &[u8], vector: Vector) {

@@ -9,9 +9,9 @@ use crate::calls::sig_sem;
 use crate::calls::snd_dtq;
 use crate::calls::wai_sem;
 use crate::entries::vector;
-use crate::print::heading;
 use access::vector::Vector;
 use kernel::state::State;
+use text::print::heading;
 
 // Task 3 is the kernel's.
 fn kernel_is_no_bit(mut s: State)

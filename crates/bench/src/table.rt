@@ -7,13 +7,13 @@ use crate::entries::add_task;
 use crate::entries::close;
 use crate::entries::fresh;
 use crate::entries::given;
-use crate::print::heading;
 use access::domain::KERNEL_DOMAIN;
 use access::domain::NO_DOMAIN;
 use access::vector::Choice;
 use kernel::state::State;
 use regions::flag::EXECUTABLE;
 use regions::flag::NO_WRITE;
+use text::print::heading;
 
 // Tasks, semaphore and queues of all runs, and the regions; document 01 leaves the owners open.
 pub fn closed() -> State

@@ -1,10 +1,9 @@
 // Lists of calls as numbers, run on the bench table of document 01; of each answer its code, and what else is not 0.
 pub mod list;
 pub mod lists;
-pub mod print;
 pub mod run;
 
-use crate::print::text;
+use text::print::text;
 
 fn main() {
     lists::run_s();

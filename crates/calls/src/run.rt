@@ -3,32 +3,45 @@ ghost use Prim.Native.Nat.{_≤_};
 use crate::list::LIST_CALLS;
 use crate::list::LIST_WORDS;
 use crate::list::List;
-use crate::print::named;
-use crate::print::part;
-use crate::print::signed;
-use crate::print::text;
 use batch::answer::ANSWER_WORDS;
 use batch::request::CALL_WORDS;
+use batch::word::signed;
 use host::host_run;
+use text::print;
+use text::print::named;
+use text::print::text;
 
 pub const ANSWERS: usize = LIST_CALLS * ANSWER_WORDS;
 
 // What the answers' slice holds beforehand; no answer here has this number.
 const UNTOUCHED: u32 = 77;
 
+// A word as the signed number that it stands for.
+fn number(name: &[u8], word: u32) {
+    text(name);
+    print::signed(signed(word));
+}
+
+// A word that is not 0.
+fn part(name: &[u8], word: u32) {
+    if word != 0 {
+        named(name, word as u64);
+    }
+}
+
 fn call(calls: [u32; LIST_WORDS], k: usize) {
     if k < LIST_CALLS {
         let at = k * CALL_WORDS;
         named(b"\nfunction ", calls[at] as u64);
-        signed(b" by ", calls[at + 1]);
-        signed(b" on ", calls[at + 2]);
+        number(b" by ", calls[at + 1]);
+        number(b" on ", calls[at + 2]);
     }
 }
 
 fn answer(answers: [u32; ANSWERS], k: usize) {
     if k < LIST_CALLS {
         let at = k * ANSWER_WORDS;
-        signed(b": code ", answers[at]);
+        number(b": code ", answers[at]);
         part(b", word ", answers[at + 1]);
         part(b", releases ", answers[at + 2]);
         part(b" with ", answers[at + 3]);

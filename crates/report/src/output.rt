@@ -1,4 +1,5 @@
 // Bytes, texts and numbers put into a block.
+use text::sign::magnitude;
 
 // The longest line is that of a data queue with 64 words and 64 who wait: below 2,048 bytes. Who puts a line leaves room for one.
 pub const SIZE: usize = 4096;
@@ -37,10 +38,9 @@ pub fn put_named(out: &mut [u8; 4096], at: usize, name: &[u8], number: u64) -> u
 }
 
 pub fn put_signed(out: &mut [u8; 4096], at: usize, number: i32) -> usize {
-    let wide = number as i64;
-    if wide < 0 {
+    if number < 0 {
         let end = put_byte(out, at, b'-');
-        return put_number(out, end, (0 - wide) as u64);
+        return put_number(out, end, magnitude(number));
     }
-    put_number(out, at, wide as u64)
+    put_number(out, at, magnitude(number))
 }

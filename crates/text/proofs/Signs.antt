@@ -23,3 +23,7 @@ minus-size (negsuc k) f h = let l = f .sfits in (tt, record { fits = omega arith
 pub plain-size : (z : ℤ) → SFits w32 z → ltZ z (pos 0) ≡ false → T (nonNeg z) × Fits w64 (natAbs z)
 plain-size (pos n) f h = let l = f .sfits in (tt, record { fits = omega arith })
 plain-size (negsuc k) f h = let e : _≡_ {A = ℕ} 0 1 = cc in let l : ⊥ = omega arith in absurd l
+
+pub minus-abs : (z : ℤ) → ltZ z (pos 0) ≡ true → natAbs (pos 0 -ℤ z) ≡ natAbs z
+minus-abs (pos n) h = let l : ⊥ = omega (arith, ltb-true n 0 h) in absurd l
+minus-abs (negsuc k) h = omega arith

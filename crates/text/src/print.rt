@@ -1,4 +1,6 @@
-// Words and numbers on standard output. A line begins with its line feed.
+// Bytes and numbers on standard output. A line begins with its line feed.
+use crate::sign::magnitude;
+
 const STDOUT: i32 = 1;
 
 pub fn text(bytes: &[u8]) {
@@ -15,14 +17,11 @@ pub fn named(name: &[u8], n: u64) {
     io::print_decimal(STDOUT, n);
 }
 
-// In 64 bits, since the least i32 has no opposite.
 pub fn signed(n: i32) {
-    let wide = n as i64;
-    if wide < 0 {
-        named(b"-", (0 - wide) as u64);
-    } else {
-        io::print_decimal(STDOUT, wide as u64);
+    if n < 0 {
+        text(b"-");
     }
+    io::print_decimal(STDOUT, magnitude(n));
 }
 
 // An address, as document 01 writes it.
