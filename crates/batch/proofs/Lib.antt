@@ -1,3 +1,4 @@
 pub mod Words
 pub mod Performs
 pub mod Loops
+pub mod Apart

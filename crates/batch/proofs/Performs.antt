@@ -29,7 +29,7 @@ use Rattle.kernel.specs.Promises.{Does, TellsSemaphore, TellsQueue}
 use Rattle.model.proofs.Refers.{refer-state, refer-reply, refer-receiver}
 use Rattle.batch.specs.declared.request.Request.{Request}
 use Rattle.batch.specs.declared.answer.Made.{Made}
-use Rattle.batch.specs.Encoding.{outcomeWord, meanings, nth, itemOf, wordsOf, noCall}
+use Rattle.batch.specs.Encoding.{outcomeWord, meanings, nth, itemOf, wordsOf}
 use Rattle.batch.specs.Made.{madeOf, toldOfSemaphore, toldOfQueue, Performs}
 
 -- ---- the numbers of an answer fit a word

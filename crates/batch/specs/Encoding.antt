@@ -1,6 +1,5 @@
 -- A list of calls as numbers of 32 bits, and their answers as numbers of 32 bits. Definitions only.
 use Prim.Native.Nat.{ℕ, zero, suc, _+_, _*_, _/_}
-use mathlib.Core.Bool.{Bool}
 use mathlib.Core.List.{List, [], _∷_, _++_}
 use mathlib.Core.Option.{Option, none, some}
 use lib.Dec.{leb, ltb}
@@ -9,7 +8,6 @@ use lib.ListN.{length, getD}
 use mir.Syntax.{w32}
 use mir.Val.{toZ, ofZ}
 use Rattle.access.specs.Patterns.{pick}
-use Rattle.access.specs.declared.vector.Vector.{Vector}
 use Rattle.model.specs.State as Model
 use Rattle.model.specs.Answers.{Answer, outcomeOf, releasedOf}
 use Rattle.model.specs.Calls.{Call, call, signal, acquire, send, receive, refer, setVector}

@@ -1,11 +1,9 @@
 -- A run from a state that is seen as the bench table. Assumes nothing.
 use Prim.Native.Nat.{ℕ, _*_}
-use mathlib.Core.Path.{_≡_, ap, _∙_, sym, subst}
+use mathlib.Core.Path.{_≡_, ap, _∙_}
 use mathlib.Core.List.{List, _++_}
 use lib.ListN.{drop}
 use Rattle.model.specs.State as Model
-use Rattle.model.specs.History.{after, history}
-use Rattle.model.specs.Demand3.{Demand3}
 use Rattle.kernel.specs.declared.state.State.{State}
 use Rattle.kernel.specs.View.{viewOf}
 use Rattle.batch.specs.declared.run.Ran.{Ran}

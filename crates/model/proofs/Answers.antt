@@ -2,7 +2,7 @@
 -- What the call does to the state is in Steps and Turns.
 use mathlib.Core.Path.{_≡_, refl, sym, ap, _∙_, subst}
 use mathlib.Core.Logic.{_≢_, _⊎_, inl, inr}
-use mathlib.Core.Bool.{Bool, true, false, not, _&&_}
+use mathlib.Core.Bool.{Bool, true, false, _&&_}
 use mathlib.Core.List.{List, [], _∷_}
 use mathlib.Core.Option.{Option, none, some}
 use Prim.Native.Nat.{ℕ, zero, suc, _≤_, _<_}
@@ -19,7 +19,7 @@ use Rattle.model.specs.State.{Vector, Waiter, State, place, onSem, semAt
 use Rattle.model.specs.Answers.{Released, Answer, Out}
 use Rattle.model.specs.Waits.{Patience, polling, forever, absent, waitersAt, senders, receivers, firstTask}
 use Rattle.model.specs.Calls.{Kind, semaphore, queue, Op, signal, acquire, send, receive, refer, setVector, call, no, kindOf, numberIn, operationOf, ready, inRange, registered, vectorAt, admits, check, act, actIf, step}
-use Rattle.model.proofs.Lists.{both, no-both}
+use Rattle.model.proofs.Lists.{no-both}
 use Rattle.model.proofs.Cases.{signalOf, acquireOf, sendOf, receiveOf}
 use Rattle.model.proofs.Tests.{Tells, holds, fails, le-tells, lt-tells, eq-tells, true-tells, and-tells, not-tells, passes-on, stops-at, later, stopped}
 

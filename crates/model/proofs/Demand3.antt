@@ -15,7 +15,7 @@ use Rattle.model.specs.Demand3.{Sender, senderOf, notTask, unreleased, s
 use Rattle.model.specs.History.{without, Event, History, event, after, history, handed, sent, sentBy, sentTo, words, total, pending, joined, joinedBy, grants, signals, vectorBy, vectorSince, Each}
 use Rattle.model.specs.Lists.{at, keep, consIf, only, All}
 use Rattle.model.specs.State.{Vector, Fixed, onSem, receiving, sending, Place, Waiter, State, place, semAt, domainAt, waiter}
-use Rattle.model.specs.Waits.{forever, standsAt, isOther, absent, senders, waitersAt}
+use Rattle.model.specs.Waits.{forever, standsAt, isOther, absent, waitersAt}
 use Rattle.model.proofs.Lists.{all-keep, all-snoc, keep-append, keep-comm, eq-of, eqb-same, eqb-sym, and-left, and-right, Distinct}
 use Rattle.model.proofs.Cover.{Covers, call, cover}
 use Rattle.model.proofs.Queues.{qviewOf, content, QueueOk, place-of}

@@ -18,3 +18,4 @@ pub mod Replies
 pub mod Places
 pub mod Teeth
 pub mod Owners
+pub mod Ordinals

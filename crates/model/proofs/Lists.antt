@@ -10,7 +10,7 @@ use lib.Seq.{getD-set-same, getD-set-other}
 use lib.Dec.{eqb, T, eqb→eq, eqb-refl}
 pub use Rattle.model.specs.Conditions.{Distinct}
 use Rattle.model.specs.Lists.{at, put, consIf, keep, All}
-use Rattle.model.specs.State.{Waiter, place}
+use Rattle.model.specs.State.{Waiter}
 use Rattle.model.specs.Waits.{isOther, absent}
 
 -- ---- tests

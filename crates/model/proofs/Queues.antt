@@ -2,7 +2,7 @@
 use mathlib.Core.Path.{_≡_, refl, sym, ap, _∙_, subst}
 use mathlib.Core.Logic.{_≢_}
 use mathlib.Core.Logic.{_⊎_, inl, inr}
-use mathlib.Core.Bool.{Bool, true, false, _&&_, and-false}
+use mathlib.Core.Bool.{Bool, true, false, and-false}
 use mathlib.Core.List.{List, [], _∷_, _++_, append-assoc, append-nil}
 use Prim.Native.Nat.{ℕ, suc, _+_, _≤_, _<_}
 use native.Mathlib.Omega.{arith}
@@ -11,7 +11,7 @@ use lib.Dec.{eqb}
 pub use Rattle.model.specs.Conditions.{QView, qview, qviewOf, QueueOk}
 use Rattle.model.proofs.Cases.{release, join}
 use Rattle.model.specs.Demand3.{wordsIn}
-use Rattle.model.specs.Lists.{consIf, at}
+use Rattle.model.specs.Lists.{consIf}
 use Rattle.model.specs.State.{Waiter, Place, Side, onSem, receiving, sending, State, place, sameSide, samePlace}
 use Rattle.model.specs.Waits.{standsAt, waitersAt, senders, receivers}
 use Rattle.model.proofs.Lists.{eq-of, ne-of, no-both, and-left, and-right, eqb-same, eqb-no, keep-append, Distinct, leave-same, leave-other}

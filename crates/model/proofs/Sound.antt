@@ -18,7 +18,7 @@ use Rattle.model.specs.Queues.{wordsUsed}
 use Rattle.model.specs.State.{Vector, Fixed, Sem, Queue, onSem, receiving, sending, Place, Waiter, State, place, samePlace, noSem, noQueue, semAt, queueAt, waiter}
 use Rattle.model.specs.Waits.{isOther, absent, waitersAt}
 use Rattle.model.proofs.Lists.{all-keep, all-snoc, all-put, eq-of, ne-of, Distinct, distinct-keep, distinct-snoc, keep-absent, at-put-same, at-put-other, at-put-keep, length-put}
-use Rattle.model.proofs.Cover.{Covers, call, cover}
+use Rattle.model.proofs.Cover.{Covers, cover}
 use Rattle.model.proofs.Queues.{release-other, join-other, unlike}
 use Rattle.model.proofs.Steps.{lt-of, fixed-law, queue-law}
 

@@ -11,13 +11,13 @@ use lib.IntN.{ℤ}
 use Rattle.itron.specs.Codes.{Err, Code, ok, waiting, error}
 use Rattle.model.proofs.Cases.{setWaits, setCount, setBuffer, release, join}
 use Rattle.model.specs.Answers.{noInfo, Out}
-use Rattle.model.specs.Calls.{isRefer, Kind, semaphore, queue, refer, Call, no, vectorAt, registered, setVectorOf, step}
+use Rattle.model.specs.Calls.{isRefer, Kind, semaphore, queue, Call, no, vectorAt, registered, setVectorOf, step}
 use Rattle.model.specs.History.{without, event, handed, handedBy, sent, sentBy, joined, joinedBy, grants, grantBy, signals, signalBy, countIf, vectorBy, either, sameKind}
-use Rattle.model.specs.Lists.{at, only}
+use Rattle.model.specs.Lists.{only}
 use Rattle.model.specs.State.{Vector, Sem, Queue, Side, onSem, receiving, sending, Waiter, State, place, samePlace, noSem, noQueue, semAt, queueAt, waiter, zeroVector}
 use Rattle.model.specs.Waits.{isOther, waitersAt}
 use Rattle.model.proofs.Lists.{eq-of, ne-of, no-both, Distinct, distinct-keep, distinct-snoc, at-put-same, at-put-other, at-put-keep, length-put}
-use Rattle.model.proofs.Cover.{Covers, call, cover}
+use Rattle.model.proofs.Cover.{Covers, cover}
 use Rattle.model.proofs.Queues.{qview, qview-eq, qviewOf, QueueOk, Kept, stay, split, via, pass, store, queueUp, take, refill, direct, await, release-same, release-other, join-same, join-other, unlike, alike}
 
 pub lt-of : (m n : ℕ) → ltb m n ≡ true → m < n

@@ -17,7 +17,7 @@ use Rattle.model.specs.Queues.{wordsUsed}
 use Rattle.model.specs.State.{Sem, Queue, Region, State, noSem, place}
 use Rattle.model.specs.Table.{Entry, task, sem, queue, region, hasRoom, domainOk, attributeOk, numbersOk, placeOk, memoryOk, checkEntry, newSem, newQueue, newRegion, add, enterBy, enter, emptyState, freshBy, fresh, closeBy, close}
 use Rattle.itron.specs.Limits.{maxTasks, maxSemaphores, maxQueues, maxRegions, maxWords, maxCount, maxDomains, addressEnd}
-use Rattle.model.specs.Regions.{end, lastEnd}
+use Rattle.model.specs.Regions.{lastEnd}
 use Rattle.model.proofs.Lists.{and-left, and-right, no-both, all-snoc}
 
 lt-of : (m n : ℕ) → ltb m n ≡ true → m < n

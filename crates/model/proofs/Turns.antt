@@ -19,7 +19,7 @@ use Rattle.model.specs.State.{Vector, onSem, receiving, sending, Place, 
 use Rattle.model.specs.Waits.{standsAt, waitersAt, freed}
 use Rattle.model.specs.Turns.{servesBy, serves, tasksOf, InTurn}
 use Rattle.model.proofs.Lists.{keep-append, Distinct}
-use Rattle.model.proofs.Cover.{Covers, call, cover}
+use Rattle.model.proofs.Cover.{Covers, cover}
 use Rattle.model.proofs.Queues.{place-of, release-same, release-other}
 use Rattle.model.proofs.Steps.{distinct-law}
 

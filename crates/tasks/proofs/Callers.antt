@@ -1,18 +1,18 @@
 -- Who calls, and the task with a number. Assumes nothing.
-use Prim.Native.Nat.{ℕ, zero, suc, _-_, _≤_, _<_}
+use Prim.Native.Nat.{ℕ, suc, _-_, _≤_, _<_}
 use native.Mathlib.Omega.{arith}
-use mathlib.Core.Path.{_≡_, refl, sym, ap, _∙_}
+use mathlib.Core.Path.{_≡_, sym, ap, _∙_}
 use mathlib.Core.Logic.{_≢_}
-use mathlib.Core.Bool.{Bool, true, false, not, _&&_, and-false}
+use mathlib.Core.Bool.{true, false, not, _&&_, and-false}
 use lib.Dec.{eqb, leb}
-use lib.IntN.{ℤ, pos, negsuc}
+use lib.IntN.{ℤ, pos}
 use lib.ListN.{length, getD}
 use borrow.Author.Tests.{le-leb, lt-leb, ne-eqb}
-use Rattle.access.specs.Patterns.{pick, ordinalOf}
-use Rattle.access.proofs.Ordinals.{ordinal-user}
+use Rattle.access.specs.Patterns.{ordinalOf}
 use Rattle.model.specs.Lists.{at}
 use Rattle.model.specs.Waits.{absent}
 use Rattle.model.specs.Calls.{no}
+use Rattle.model.proofs.Ordinals.{outside, within}
 use Rattle.tasks.specs.declared.task.Task.{Task}
 use Rattle.tasks.specs.declared.state.Tasks.{Tasks}
 use Rattle.tasks.specs.declared.wait.Caller.the-variants as Caller
@@ -23,30 +23,6 @@ use Rattle.tasks.specs.Ends.{isTask, callerOf, taskOf}
 use Rattle.tasks.proofs.Waits.{ready-absent}
 use Rattle.tasks.proofs.Entries.{entry}
 use Rattle.tasks.proofs.Back.{count-seen, entry-seen}
-
--- ---- a number outside 1 to n, and one from 1 to n
-pub outside : (z : ℤ) (n : ℕ) → ordinalOf z n ≡ 0 → not (eqb (no z) 0) && leb (no z) n ≡ false
-unfolding ordinalOf
-outside (negsuc k) n h = refl
-outside (pos zero) n h = refl
-outside (pos (suc k)) n h = go (leb (suc k) n) refl h
-  where
-    go : (b : Bool) → leb (suc k) n ≡ b → pick b (suc k) 0 ≡ 0 → not (eqb (suc k) 0) && leb (suc k) n ≡ false
-    go true e q = absurd (omega arith)
-    go false e q = rw e (and-false (not (eqb (suc k) 0)))
-
-pub record Within (z : ℤ) (n k : ℕ) : Type 0 where
-  pub same : no z ≡ suc (k - 1)
-  pub low : k - 1 < n
-  pub test : not (eqb (no z) 0) && leb (no z) n ≡ true
-
-pub within : (z : ℤ) (n k : ℕ) → k ≡ ordinalOf z n → k ≢ 0 → Within z n k
-within z n k e h =
-    let i : k ≡ suc (k - 1) = omega arith in
-    let u = ordinal-user z n (k - 1) (sym e ∙ i) in
-    let s : no z ≡ suc (k - 1) = ap no (u .0) in
-    let l = u .1 in
-    record { same = s; low = l; test = rw s (rw (ne-eqb (suc (k - 1)) 0 (λ q. omega arith)) (le-leb (suc (k - 1)) n (omega arith))) }
 
 -- ---- who calls
 module _ {t : Tasks} (h : Held t) (z : ℤ) where

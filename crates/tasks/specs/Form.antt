@@ -1,5 +1,5 @@
 -- The one form in which the arrays hold the tasks: unused cells are zero, and what is held twice agrees. Definitions only.
-use Prim.Native.Nat.{ℕ, zero, suc}
+use Prim.Native.Nat.{ℕ, suc}
 use mathlib.Core.List.{List, [], _∷_, map}
 use lib.Dec.{eqb}
 use lib.IntN.{ℤ}

@@ -1,3 +1,4 @@
+-- `areas` meets its contract. Assumes nothing.
 use mathlib.Core.Path.{_∙_}
 use Rattle.model.specs.Table.{region, enter}
 use Rattle.laws.specs.Starred.{kernelDomain}

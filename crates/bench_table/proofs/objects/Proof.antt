@@ -1,3 +1,4 @@
+-- `objects` meets its contract. Assumes nothing.
 use mathlib.Core.Path.{_∙_}
 use Rattle.model.specs.Table.{sem, queue, enter}
 use Rattle.laws.specs.Starred.{kernelDomain}

@@ -1,3 +1,4 @@
+-- `answer::outcome_word` meets its contract. Assumes nothing.
 use mathlib.Core.Path.{_≡_, _∙_}
 use mir.Syntax.{w32}
 use mir.Val.{toZ, ofZ}

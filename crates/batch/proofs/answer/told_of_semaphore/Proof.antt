@@ -1,3 +1,4 @@
+-- `answer::told_of_semaphore` meets its contract. Assumes nothing.
 use mir.Val.{toZ, ofZ}
 use mir.Syntax.{w32}
 use mathlib.Core.Path.{_≡_}

@@ -1,3 +1,4 @@
+-- `run::count` meets its contract. Assumes nothing.
 use mathlib.Core.Path.{_∙_}
 use borrow.Author.Tests.{lt-ltb, le-ltb}
 -- `run::count` meets its contract: by what there is less of. Assumes nothing.

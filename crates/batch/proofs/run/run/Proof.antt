@@ -11,11 +11,6 @@ use Rattle.batch.proofs.Loops.{Loop, loop-start, loop-next, loop-length
 use Rattle.batch.specs.Encoding.{answerWords}
 use Rattle.batch.proofs.run.run.Statement.{statement}
 use Rattle.batch.proofs.run.run.Tie as tie
-use Rattle.batch.proofs.run.run.Reads as reads
-use Rattle.batch.proofs.run.run.Lts as lts
-use Rattle.batch.proofs.run.count.Reads as count-reads
-use Rattle.batch.proofs.run.step.Reads as step-reads
-use Rattle.batch.proofs.run.write.Reads as write-reads
 
 abbrev Inv-loop : tie.InvT-loop
 Inv-loop state₀ calls answers₀ made k₀ state answers k = (k ≤ made) × Loop state₀ calls answers₀ state answers k

@@ -7,7 +7,6 @@ use lib.ListN.{length}
 use borrow.Author.Tests.{lt-leb, le-leb}
 use Rattle.access.specs.Patterns.{pick}
 use Rattle.model.specs.Calls.{Call}
-use Rattle.batch.specs.declared.request.Request.{Request}
 use Rattle.batch.specs.Encoding.{callWords, requestAt, itemOf, itemAt}
 use Rattle.batch.specs.Made.{Performs}
 use borrow.Author.Needs.{needs}

@@ -1,3 +1,4 @@
+-- `run::write` meets its contract. Assumes nothing.
 use lib.ListN.{length, getD, set}
 use mathlib.Core.List.{List}
 use borrow.Author.Needs.{needs}

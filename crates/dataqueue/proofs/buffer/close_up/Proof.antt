@@ -4,16 +4,12 @@ use native.Mathlib.Omega.{arith}
 use mathlib.Core.Path.{_≡_, sym, ap, _∙_}
 use mathlib.Core.List.{List}
 use Prim.Native.Nat.{ℕ}
-use lib.ListN.{length, getD, set}
-use borrow.Author.Needs.{needs}
-use Rattle.itron.specs.Limits.{maxWords}
+use lib.ListN.{getD, set}
 use Rattle.dataqueue.specs.Buffers.{closeUp}
 use Rattle.arrays.proofs.Fills.{filled, fill-step, fill-ahead}
 use Rattle.dataqueue.proofs.CloseUp.{close-length, close-move, close-zero, close-start, close-end}
 use Rattle.dataqueue.proofs.buffer.close_up.Statement.{statement}
 use Rattle.dataqueue.proofs.buffer.close_up.Tie as tie
-use Rattle.dataqueue.proofs.buffer.close_up.Reads as reads
-use Rattle.dataqueue.proofs.buffer.close_up.Lts as lts
 
 abbrev Inv-loop : tie.InvT-loop
 Inv-loop words₀ first len last i₀ words i = (first ≤ i) × (i ≤ last) × (words ≡ filled (closeUp first len words₀) words₀ i)

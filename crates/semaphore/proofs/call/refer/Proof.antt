@@ -1,3 +1,4 @@
+-- `call::refer` meets its contract. Assumes nothing.
 use borrow.Author.Needs.{needs}
 use Rattle.semaphore.proofs.call.refer.Statement.{statement}
 use Rattle.semaphore.proofs.call.refer.Tie as tie

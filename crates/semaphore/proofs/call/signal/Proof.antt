@@ -1,3 +1,4 @@
+-- `call::signal` meets its contract. Assumes nothing.
 use borrow.Author.Needs.{needs}
 use mathlib.Core.Path.{sym, _∙_}
 use Rattle.model.specs.State.{place}

@@ -1,3 +1,4 @@
+-- `entry::check` meets its contract. Assumes nothing.
 use lib.Dec.{leb}
 use mathlib.Core.Path.{sym}
 use borrow.Author.Tests.{lt-leb, le-leb, ne-eqb, eq-eqb}

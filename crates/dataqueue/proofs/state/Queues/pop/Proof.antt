@@ -1,3 +1,4 @@
+-- `Queues::pop` meets its contract. Assumes nothing.
 use lib.ListN.{length}
 -- `Queues::pop` meets its contract. Assumes nothing.
 use borrow.Author.Needs.{needs}

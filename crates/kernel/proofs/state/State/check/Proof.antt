@@ -1,3 +1,4 @@
+-- `State::check` meets its contract. Assumes nothing.
 use borrow.Author.Needs.{needs}
 use Prim.Native.Nat.{_-_, _<_, _≤_}
 use native.Mathlib.Omega.{arith}
@@ -11,7 +12,7 @@ use Rattle.arrays.specs.Pad.{index}
 use Rattle.model.specs.Calls as Model
 use Rattle.model.specs.Calls.{no, vectorAt}
 use Rattle.tasks.specs.declared.wait.Caller.the-variants as Caller
-use Rattle.tasks.proofs.Callers.{outside, Within, within}
+use Rattle.model.proofs.Ordinals.{outside, Within, within}
 use Rattle.kernel.specs.declared.check.Check.the-variants.{Admitted}
 use Rattle.kernel.specs.View.{viewOf}
 use Rattle.kernel.specs.Answers.{callerIn}

@@ -1,3 +1,4 @@
+-- `State::close` meets its contract. Assumes nothing.
 use borrow.Author.Needs.{needs}
 use mathlib.Core.Path.{_∙_}
 use Rattle.kernel.proofs.Back.{enters-close}

@@ -1,3 +1,4 @@
+-- `State::empty` meets its contract. Assumes nothing.
 use borrow.Author.Needs.{needs}
 use mathlib.Core.Bool.{false}
 use Rattle.kernel.proofs.state.State.empty.Statement.{statement}

@@ -1,3 +1,4 @@
+-- `State::opening` meets its contract. Assumes nothing.
 use mathlib.Core.Path.{sym}
 use mathlib.Core.Bool.{not}
 use lib.Dec.{ltb}

@@ -1,3 +1,4 @@
+-- `State::prcv_dtq` meets its contract. Assumes nothing.
 use borrow.Author.Needs.{needs}
 use mir.Facts.{toZ-ofZ}
 use Rattle.kernel.proofs.state.State.prcv_dtq.Statement.{statement}

@@ -1,3 +1,4 @@
+-- `State::psnd_dtq` meets its contract. Assumes nothing.
 use borrow.Author.Needs.{needs}
 use mir.Facts.{toZ-ofZ}
 use Rattle.kernel.proofs.state.State.psnd_dtq.Statement.{statement}

@@ -1,3 +1,4 @@
+-- `State::queue` meets its contract. Assumes nothing.
 use borrow.Author.Needs.{needs}
 use Rattle.kernel.proofs.Back.{queues-held}
 use Rattle.kernel.proofs.state.State.queue.Statement.{statement}

@@ -1,3 +1,4 @@
+-- `State::region` meets its contract. Assumes nothing.
 use borrow.Author.Needs.{needs}
 use Rattle.kernel.proofs.Back.{regions-held}
 use Rattle.kernel.proofs.state.State.region.Statement.{statement}

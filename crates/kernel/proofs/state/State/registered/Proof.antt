@@ -1,3 +1,4 @@
+-- `State::registered` meets its contract. Assumes nothing.
 use borrow.Author.Needs.{needs}
 use mathlib.Core.Path.{sym, ap, _∙_}
 use Rattle.model.specs.Calls.{registered}

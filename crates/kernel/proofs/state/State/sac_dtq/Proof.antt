@@ -1,3 +1,4 @@
+-- `State::sac_dtq` meets its contract. Assumes nothing.
 use borrow.Author.Needs.{needs}
 use mathlib.Core.Path.{_≡_, refl, sym, _∙_}
 use mir.Syntax.{w32}

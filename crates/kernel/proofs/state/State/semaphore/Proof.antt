@@ -1,3 +1,4 @@
+-- `State::semaphore` meets its contract. Assumes nothing.
 use borrow.Author.Needs.{needs}
 use Rattle.kernel.proofs.Back.{sems-held}
 use Rattle.kernel.proofs.state.State.semaphore.Statement.{statement}

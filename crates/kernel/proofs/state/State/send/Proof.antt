@@ -1,3 +1,4 @@
+-- `State::send` meets its contract. Assumes nothing.
 use borrow.Author.Needs.{needs}
 use Prim.Native.Nat.{suc}
 use mathlib.Core.Path.{_≡_, refl, sym, _∙_}

@@ -1,3 +1,4 @@
+-- `State::snd_dtq` meets its contract. Assumes nothing.
 use borrow.Author.Needs.{needs}
 use mir.Facts.{toZ-ofZ}
 use Rattle.kernel.proofs.state.State.snd_dtq.Statement.{statement}

@@ -1,3 +1,4 @@
+-- `State::task` meets its contract. Assumes nothing.
 use borrow.Author.Needs.{needs}
 use Rattle.kernel.proofs.Back.{tasks-held}
 use Rattle.kernel.proofs.state.State.task.Statement.{statement}

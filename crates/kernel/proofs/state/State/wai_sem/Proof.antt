@@ -1,3 +1,4 @@
+-- `State::wai_sem` meets its contract. Assumes nothing.
 use borrow.Author.Needs.{needs}
 use mir.Facts.{toZ-ofZ}
 use Rattle.kernel.proofs.state.State.wai_sem.Statement.{statement}

@@ -1,3 +1,4 @@
+-- `Semaphores::add` meets its contract. Assumes nothing.
 use borrow.Author.Needs.{needs}
 use Rattle.semaphore.proofs.Back.{count-seen, add-seen}
 use Rattle.semaphore.proofs.state.Semaphores.add.Statement.{statement}

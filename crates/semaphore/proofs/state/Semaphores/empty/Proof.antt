@@ -1,3 +1,4 @@
+-- `Semaphores::empty` meets its contract. Assumes nothing.
 use mathlib.Core.Path.{refl}
 use Rattle.semaphore.specs.Form.{semsAs}
 use Rattle.semaphore.proofs.state.Semaphores.empty.Statement.{statement}

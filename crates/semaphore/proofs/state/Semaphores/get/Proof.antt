@@ -1,3 +1,4 @@
+-- `Semaphores::get` meets its contract. Assumes nothing.
 use borrow.Author.Needs.{needs}
 use Rattle.semaphore.proofs.Back.{count-seen, get-seen}
 use Rattle.semaphore.proofs.state.Semaphores.get.Statement.{statement}

@@ -1,3 +1,4 @@
+-- `Semaphores::len` meets its contract. Assumes nothing.
 use Rattle.semaphore.proofs.Back.{count-seen}
 use Rattle.semaphore.proofs.state.Semaphores.len.Statement.{statement}
 use Rattle.semaphore.proofs.state.Semaphores.len.Tie as tie

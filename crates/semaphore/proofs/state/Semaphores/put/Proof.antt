@@ -1,3 +1,4 @@
+-- `Semaphores::put` meets its contract. Assumes nothing.
 use borrow.Author.Needs.{needs}
 use Rattle.semaphore.proofs.Back.{count-seen, put-seen}
 use Rattle.semaphore.proofs.state.Semaphores.put.Statement.{statement}

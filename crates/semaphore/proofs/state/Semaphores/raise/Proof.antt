@@ -1,3 +1,4 @@
+-- `Semaphores::raise` meets its contract. Assumes nothing.
 use borrow.Author.Needs.{needs}
 use mathlib.Core.Path.{ap, _∙_}
 use Rattle.model.specs.declared.Reply.{Reply}

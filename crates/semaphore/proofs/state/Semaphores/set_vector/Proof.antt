@@ -1,3 +1,4 @@
+-- `Semaphores::set_vector` meets its contract. Assumes nothing.
 use borrow.Author.Needs.{needs}
 use mathlib.Core.Path.{_∙_, ap}
 use Rattle.model.specs.declared.Semaphore.{Semaphore}

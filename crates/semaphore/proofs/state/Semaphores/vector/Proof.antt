@@ -1,3 +1,4 @@
+-- `Semaphores::vector` meets its contract. Assumes nothing.
 use borrow.Author.Needs.{needs}
 use mathlib.Core.Path.{ap}
 use Rattle.model.specs.declared.Semaphore.{Semaphore}
