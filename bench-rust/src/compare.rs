@@ -1,6 +1,6 @@
 //! Random lists of calls through both kernels; every word of the answers must agree.
 
-use crate::plain_runs::{bench_table, make, run, ANSWER_WORDS, CALL_WORDS, E_RSFN, WAITING};
+use crate::plain_runs::*;
 use crate::{ours, plain::*};
 
 const SEED: u64 = 0x9E37_79B9_7F4A_7C15;
@@ -9,6 +9,13 @@ const MOST_CALLS: u32 = 400;
 /// What the answers hold before a run, so that a word written too far shows.
 const FILLER: u32 = 0xA5A5_A5A5;
 
+/// Those that never wait.
+const QUICK_FUNCTIONS: [u32; 8] = [SIG_SEM, POL_SEM, REF_SEM, SAC_SEM, PSND_DTQ, PRCV_DTQ, REF_DTQ, SAC_DTQ];
+/// Signals and sends twice as often, for what waits.
+const ALL_FUNCTIONS: [u32; 13] = [
+    SIG_SEM, SIG_SEM, POL_SEM, WAI_SEM, REF_SEM, SAC_SEM, PSND_DTQ, PSND_DTQ, SND_DTQ, PRCV_DTQ, RCV_DTQ, REF_DTQ,
+    SAC_DTQ,
+];
 const WRONG_FUNCTIONS: [u32; 4] = [0, 12, 0x8000_0000, u32::MAX];
 const WRONG_CALLERS: [i32; 7] = [-1, 0, 5, 64, 65, i32::MIN, i32::MAX];
 const WRONG_OBJECTS: [i32; 10] = [0, -1, 2, 3, 16, 17, 32, 33, i32::MIN, i32::MAX];
@@ -55,11 +62,9 @@ fn random_call(random: &mut Random, ready: &[i32]) -> [u32; CALL_WORDS] {
     let caller = random.mostly(caller, 40, &WRONG_CALLERS);
     // The last ready task seldom waits, as nobody would release it.
     let lonely = ready.len() < 2 && !random.one_in(32);
-    let functions: &[u32] =
-        if lonely { &[1, 2, 4, 5, 6, 8, 10, 11] } else { &[1, 1, 2, 3, 4, 5, 6, 6, 7, 8, 9, 10, 11] };
-    let function = random.pick(functions);
+    let function = random.pick(if lonely { &QUICK_FUNCTIONS[..] } else { &ALL_FUNCTIONS });
     let function = random.mostly(function, 60, &WRONG_FUNCTIONS);
-    let object = if function < 6 { 1 } else { random.pick(&[1, 1, 2]) };
+    let object = if function < PSND_DTQ { 1 } else { random.pick(&[1, 1, 2]) };
     let object = random.mostly(object, 30, &WRONG_OBJECTS);
     let mut call = [function, caller as u32, object as u32, random.next(), 0, 0, 0, 0];
     let wide = !random.one_in(4);
@@ -122,8 +127,8 @@ pub fn compare() {
         assert_same(list, &calls, &our_answers, &plain_answers);
         assert_eq!(we_answered, answered, "list {list}: how many calls were answered");
         compared += answered;
-        short += u32::from((answered as usize) < calls.len().div_ceil(CALL_WORDS));
-        for answer in plain_answers.chunks(ANSWER_WORDS).take(answered as usize) {
+        short += u32::from(answered < calls.len().div_ceil(CALL_WORDS));
+        for answer in plain_answers.chunks(ANSWER_WORDS).take(answered) {
             releases += u32::from(answer[2] != 0);
             codes[CODES.iter().position(|&code| code == answer[0] as i32).expect("a call's code")] += 1;
         }

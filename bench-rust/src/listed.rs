@@ -1,9 +1,7 @@
 //! A list of calls as numbers, handed to a run: a task waits on a queue and the next call releases it.
 
-use crate::plain_runs::{ANSWER_WORDS, CALL_WORDS};
+use crate::plain_runs::{ANSWER_WORDS, CALL_WORDS, PSND_DTQ, RCV_DTQ};
 
-const PSND_DTQ: u32 = 6;
-const RCV_DTQ: u32 = 9;
 /// Long enough that the table, which each run builds anew, costs little beside the calls.
 const LIST_PAIRS: u32 = 4_096;
 const RELEASED_WORD: usize = 3;

@@ -31,7 +31,7 @@ pub const MAX_QUEUE_CAPACITY: u32 = 64;
 pub const TDOM_KERNEL: i32 = -1;
 pub const TDOM_NONE: i32 = -2;
 
-pub const TA_NOWRITE: u32 = 1;
+pub const TA_RO: u32 = 1;
 pub const TA_EXEC: u32 = 4;
 
 pub const TPM_WRITE: u32 = 1;
@@ -335,7 +335,7 @@ impl Kernel {
 
     pub fn add_region(&mut self, domain: i32, atr: u32, base: u32, size: u32, vector: Option<Vector>) -> Check {
         self.check_entry(&self.regions, domain)?;
-        ensure(atr & !(TA_NOWRITE | TA_EXEC) == 0, E_RSATR)?;
+        ensure(atr & !(TA_RO | TA_EXEC) == 0, E_RSATR)?;
         let region = Region { base, size, atr, vector: vector.unwrap_or(Vector::default_of(domain)) };
         ensure(size > 0 && region.end() <= ADDRESSES, E_PAR)?;
         let end_before = self.regions.entries[..self.regions.count].last().map_or(0, Region::end);
@@ -484,7 +484,7 @@ impl Kernel {
         let regions = &self.regions.entries[..self.regions.count];
         let region = regions.iter().find(|region| region.holds(base)).ok_or(E_NOEXS)?;
         ensure(end <= region.end(), E_OBJ)?;
-        let write = region.atr & TA_NOWRITE == 0 && admits(region.vector.normal1, domain);
+        let write = region.atr & TA_RO == 0 && admits(region.vector.normal1, domain);
         let read = admits(region.vector.normal2, domain);
         let execute = read && region.atr & TA_EXEC != 0;
         let granted = [(TPM_WRITE, write), (TPM_READ, read), (TPM_EXEC, execute)];

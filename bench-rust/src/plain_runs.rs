@@ -1,7 +1,20 @@
 //! The archive's functions, done by the ordinary kernel: same tables, same loops, same results.
 
-use crate::plain::{Check, Done, Er, Kernel, Referred, Vector, E_OK, TDOM_KERNEL, TPM_READ};
+use crate::plain::{Check, Done, Er, Kernel, Referred, Vector, E_OK, TA_EXEC, TA_RO, TDOM_KERNEL, TPM_READ};
 use std::hint::black_box;
+
+/// The functions' numbers in a list of calls, in document 01's order of the calls.
+pub const SIG_SEM: u32 = 1;
+pub const POL_SEM: u32 = 2;
+pub const WAI_SEM: u32 = 3;
+pub const REF_SEM: u32 = 4;
+pub const SAC_SEM: u32 = 5;
+pub const PSND_DTQ: u32 = 6;
+pub const SND_DTQ: u32 = 7;
+pub const PRCV_DTQ: u32 = 8;
+pub const RCV_DTQ: u32 = 9;
+pub const REF_DTQ: u32 = 10;
+pub const SAC_DTQ: u32 = 11;
 
 pub const CALL_WORDS: usize = 8;
 pub const ANSWER_WORDS: usize = 11;
@@ -25,7 +38,9 @@ pub fn bench_table(kernel: &mut Kernel) {
         [1, 2, TDOM_KERNEL, 1].into_iter().try_for_each(|domain| kernel.add_task(domain))?;
         kernel.add_semaphore(TDOM_KERNEL, 0, 1, 2, first)?;
         kernel.add_queue(TDOM_KERNEL, 0, 2, first)?;
-        kernel.add_queue(TDOM_KERNEL, 0, 0, Some(Vector::new(3, 3, 0, 3)))
+        kernel.add_queue(TDOM_KERNEL, 0, 0, Some(Vector::new(3, 3, 0, 3)))?;
+        kernel.add_region(TDOM_KERNEL, TA_RO | TA_EXEC, 0x1000, 0x1000, Some(Vector::new(0, 3, 0, 3)))?;
+        kernel.add_region(TDOM_KERNEL, 0, 0x2000, 0x1000, Some(Vector::new(1, 1, 0, 1)))
     })
 }
 
@@ -104,17 +119,17 @@ pub fn make(kernel: &mut Kernel, call: &[u32]) -> Answer {
     let (task, id) = (caller as i32, object as i32);
     let vector = Vector::new(normal1, normal2, management, reference);
     let answer = match function {
-        1 => kernel.sig_sem(task, id).map(encode),
-        2 => kernel.pol_sem(task, id).map(encode),
-        3 => kernel.wai_sem(task, id).map(encode),
-        4 => kernel.ref_sem(task, id).map(encode_referred),
-        5 => kernel.sac_sem(task, id, vector).map(encode),
-        6 => kernel.psnd_dtq(task, id, word).map(encode),
-        7 => kernel.snd_dtq(task, id, word).map(encode),
-        8 => kernel.prcv_dtq(task, id).map(encode),
-        9 => kernel.rcv_dtq(task, id).map(encode),
-        10 => kernel.ref_dtq(task, id).map(encode_referred),
-        11 => kernel.sac_dtq(task, id, vector).map(encode),
+        SIG_SEM => kernel.sig_sem(task, id).map(encode),
+        POL_SEM => kernel.pol_sem(task, id).map(encode),
+        WAI_SEM => kernel.wai_sem(task, id).map(encode),
+        REF_SEM => kernel.ref_sem(task, id).map(encode_referred),
+        SAC_SEM => kernel.sac_sem(task, id, vector).map(encode),
+        PSND_DTQ => kernel.psnd_dtq(task, id, word).map(encode),
+        SND_DTQ => kernel.snd_dtq(task, id, word).map(encode),
+        PRCV_DTQ => kernel.prcv_dtq(task, id).map(encode),
+        RCV_DTQ => kernel.rcv_dtq(task, id).map(encode),
+        REF_DTQ => kernel.ref_dtq(task, id).map(encode_referred),
+        SAC_DTQ => kernel.sac_dtq(task, id, vector).map(encode),
         _ => Err(E_RSFN),
     };
     answer.unwrap_or_else(refused)

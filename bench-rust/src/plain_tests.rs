@@ -57,7 +57,7 @@ fn table_and_numbers() {
 fn regions() {
     let mut k = Kernel::EMPTY;
     assert_eq!(k.fresh(2), Ok(()));
-    assert_eq!(k.add_region(-1, TA_NOWRITE | TA_EXEC, 0x1000, 0x1000, Some(Vector::new(0, 3, 0, 3))), Ok(()));
+    assert_eq!(k.add_region(-1, TA_RO | TA_EXEC, 0x1000, 0x1000, Some(Vector::new(0, 3, 0, 3))), Ok(()));
     assert_eq!(k.add_region(-1, 0, 0x1FFF, 0x1000, None), Err(E_OBJ));
     assert_eq!(k.add_region(-1, 0, 0x2000, 0x1000, Some(Vector::new(1, 1, 0, 1))), Ok(()));
     assert_eq!(k.close(), Ok(()));

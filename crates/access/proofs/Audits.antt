@@ -108,10 +108,10 @@ pub report-some : (p n m : ℕ) → n ≤ maxDomains → m ≡ p % 2 ^ n → (m 
 report-some p n m h e z = rw (e, count-mask p n h, lowest-some p n h (λ y. z (e ∙ y)))
 
 -- n below 0, above 32, and from 0 to 32
-pub audit-below : (v : Vector) (z : ℤ) → ltZ z (pos 0) ≡ true → refusedReport ≡ auditOf v z
+pub refused-below : (v : Vector) (z : ℤ) → ltZ z (pos 0) ≡ true → refusedReport ≡ auditOf v z
 unfolding auditOf
-audit-below v (negsuc k) h = refl
-audit-below v (pos k) h = absurd (omega (arith, ltb-true k 0 h))
+refused-below v (negsuc k) h = refl
+refused-below v (pos k) h = absurd (omega (arith, ltb-true k 0 h))
 
 pub audit-over : (v : Vector) (z : ℤ) → ltZ z (pos 0) ≡ false → maxDomains < natAbs z → refusedReport ≡ auditOf v z
 unfolding auditOf

@@ -19,9 +19,18 @@ use Rattle.kernel.specs.declared.state.State.{State}
 use Rattle.kernel.specs.View.{viewOf}
 use Rattle.kernel.specs.Valid.{Valid}
 use Rattle.batch.specs.declared.answer.Made.{Made}
-use Rattle.batch.specs.Encoding.{answerWords, itemAt, itemsIn, callsIn, answerTo, answersOf, next, groups, answerable}
-use Rattle.batch.specs.Made.{Performs}
+use Rattle.batch.specs.Encoding.{answerWords, itemAt, itemsIn, callsIn, answersIn, groups, answerable}
+use Rattle.batch.specs.Made.{answerTo, next, Performs}
 use Rattle.batch.specs.Runs.{callsMade, Runs}
+
+-- the words of items made from a state of the model on
+abbrev answersOf : Model.State → List (Option Call) → List ℕ
+answersOf m l = answersIn l (history m (callsIn l))
+
+answers-next : (m : Model.State) (x : Option Call) (l : List (Option Call)) → answersOf m (x ∷ l) ≡ answersOf m l ++ answerTo (after m (callsIn l)) x
+unfolding history
+answers-next m none l = refl
+answers-next m (some c) l = refl
 
 -- from the state s on, over the words ws; `old` are the words of the answers' slice at the start
 pub record Loop (s : State) (ws old : List ℕ) (state : State) (words : List ℕ) (k : ℕ) : Type 0 where
@@ -45,6 +54,7 @@ answer-length m (some c) = refl
 pub answers-length : (m : Model.State) (ws : List ℕ) (k : ℕ) → length (answersOf m (itemsIn ws k)) ≡ k * answerWords
 answers-length m ws zero = refl
 answers-length m ws (suc k) =
+    let n = ap (λ (l : List ℕ). length l) (answers-next m (itemAt ws k) (itemsIn ws k)) in
     let a = length-append (answersOf m (itemsIn ws k)) (answerTo (after m (callsIn (itemsIn ws k))) (itemAt ws k)) in
     let b = answers-length m ws k in
     let c = answer-length (after m (callsIn (itemsIn ws k))) (itemAt ws k) in
@@ -71,7 +81,8 @@ loop-next {s} {ws} {old} {state} {words} {k} {r} h p =
     let w : paste words (k * answerWords) (r .words) answerWords ≡ answersOf m (x ∷ items) ++ drop (suc k * answerWords) old =
     ap (λ (z : List ℕ). paste z (k * answerWords) (r .words) answerWords) (h .written)
     ∙ paste-row (answersOf m items) (r .words) old (k * answerWords) (answers-length m ws k) l
-    ∙ (λ i. answersOf m items ++ q i ++ drop (n i) old) in
+    ∙ (λ i. answersOf m items ++ q i ++ drop (n i) old)
+    ∙ ap (λ (z : List ℕ). z ++ drop (suc k * answerWords) old) (sym (answers-next m x items)) in
     let e : viewOf (r .state) ≡ after m (callsIn (x ∷ items)) = p .seen ∙ ap (λ (y : Model.State). next y x) (h .seen) ∙ after-next m x items in
     let z : suc k ≡ k + 1 = omega arith in
     subst (λ (j : ℕ). Loop s ws old (r .state) (paste words (k * answerWords) (r .words) answerWords) j) z

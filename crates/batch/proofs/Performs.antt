@@ -13,7 +13,6 @@ use mir.Val.{ofZ, toZ}
 use Rattle.itron.specs.Limits.{maxTasks, maxWords}
 use Rattle.model.specs.Answers.{Info, Out, outcomeOf, releasedOf}
 use Rattle.model.specs.Calls.{Call, call, refer, step, isRefer}
-use Rattle.model.specs.History.{after}
 use Rattle.model.specs.declared.Kind.{Kind}
 use Rattle.model.specs.declared.Kind.the-variants.{Semaphore, Queue}
 use Rattle.model.specs.declared.Reply.{Reply}
@@ -81,7 +80,6 @@ words-with o i =
     outcomeWord (outcomeOf (o .answer .code)) ∷ o .answer .word ∷ releasedOf (o .answer .released) .task ∷ releasedOf (o .answer .released) .word ∷ i .waiter ∷ i .receiver ∷ i .count ∷ i .vector .normal1 ∷ i .vector .normal2 ∷ i .vector .management ∷ i .vector .reference ∷ []
 
 pub does : {s : State} {c : Call} {a : Answer} {r : Made} {item : Option Call} → some c ≡ item → isRefer (c .op) ≡ false → Does s c a → r ≡ madeOf a → Performs s item r
-unfolding after
 does {s} {c} {a} {r} h n d e =
     let o = step (viewOf s) c in
     let i = info-law (viewOf s) c n in
@@ -97,7 +95,6 @@ told-with p i =
 
 told : {s : State} (k : Kind) (z id : ℤ) {r : Made} {t : State} {item : Option Call} → some (call z (refer k id)) ≡ item
     → r .words ≡ wordsOf (step (viewOf s) (call z (refer k id)) .answer) → r .state ≡ t → t ≡ s → Valid t → Performs s item r
-unfolding after
 told {s} k z id {r} {t} h w e f v =
     subst (λ (x : Option Call). Performs s x r) h
     (record { answer = w; seen = ap viewOf (e ∙ f) ∙ sym (refer-state (viewOf s) z k id); valid = subst (λ (x : State). Valid x) (sym e) v })

@@ -1,5 +1,5 @@
 -- A list of calls as numbers of 32 bits, and their answers as numbers of 32 bits. Definitions only.
-use Prim.Native.Nat.{ℕ, zero, suc, _+_, _*_, _/_}
+use Prim.Native.Nat.{ℕ, zero, suc, _+_, _-_, _*_, _/_}
 use mathlib.Core.List.{List, [], _∷_, _++_}
 use mathlib.Core.Option.{Option, none, some}
 use lib.Dec.{leb, ltb}
@@ -8,10 +8,9 @@ use lib.ListN.{length, getD}
 use mir.Syntax.{w32}
 use mir.Val.{toZ, ofZ}
 use Rattle.access.specs.Patterns.{pick}
-use Rattle.model.specs.State as Model
 use Rattle.model.specs.Answers.{Answer, outcomeOf, releasedOf}
 use Rattle.model.specs.Calls.{Call, call, signal, acquire, send, receive, refer, setVector}
-use Rattle.model.specs.History.{event, after}
+use Rattle.model.specs.History.{History}
 use Rattle.model.specs.declared.Outcome.{Outcome}
 use Rattle.model.specs.declared.Outcome.the-variants.{Code, Waiting}
 use Rattle.model.specs.declared.Kind.the-variants.{Semaphore, Queue}
@@ -105,24 +104,18 @@ eRsfn = negsuc 9
 abbrev pub noCall : List ℕ
 noCall = ofZ w32 eRsfn ∷ 0 ∷ 0 ∷ 0 ∷ 0 ∷ 0 ∷ 0 ∷ 0 ∷ 0 ∷ 0 ∷ 0 ∷ []
 
--- what an item answers in a state of the model, and the state after it
-abbrev pub answerTo : Model.State → Option Call → List ℕ
-answerTo m none = noCall
-answerTo m (some c) = wordsOf (event m c .answer)
-
-abbrev pub next : Model.State → Option Call → Model.State
-next m none = m
-next m (some c) = after m (c ∷ [])
-
--- the answers to items, in the order in which they were made: each call's is that of its event in the history of the calls
-abbrev pub answersOf : Model.State → List (Option Call) → List ℕ
-answersOf m [] = []
-answersOf m (x ∷ l) = answersOf m l ++ answerTo (after m (callsIn l)) x
+-- the words of the answers to items, in the order in which they were made: a call's are those of its event's answer in the
+-- history of the calls among them
+abbrev pub answersIn : List (Option Call) → History → List ℕ
+answersIn [] h = []
+answersIn (none ∷ l) h = answersIn l h ++ noCall
+answersIn (some c ∷ l) [] = []
+answersIn (some c ∷ l) (e ∷ h) = answersIn l h ++ wordsOf (e .answer)
 
 -- ---- how many are answered: all that the slice holds (what is left behind the last eight words counts as one), as far as
 -- their answers have room
 abbrev pub groups : ℕ → ℕ
-groups n = (n + 7) / callWords
+groups n = (n + (callWords - 1)) / callWords
 
 abbrev pub answerable : ℕ → ℕ → ℕ
 answerable calls answers = pick (ltb (answers / answerWords) (groups calls)) (answers / answerWords) (groups calls)

@@ -1,10 +1,12 @@
 -- What one request gives. Definitions only.
+use Prim.Native.Nat.{ℕ}
 use mathlib.Core.Path.{_≡_}
-use mathlib.Core.List.{[], _∷_}
-use mathlib.Core.Option.{Option}
+use mathlib.Core.List.{List, [], _∷_}
+use mathlib.Core.Option.{Option, none, some}
 use mir.Syntax.{w32}
 use mir.Val.{ofZ}
-use Rattle.model.specs.Calls.{Call}
+use Rattle.model.specs.State as Model
+use Rattle.model.specs.Calls.{Call, step}
 use Rattle.kernel.specs.declared.state.State.{State}
 use Rattle.kernel.specs.declared.state.Answer.{Answer}
 use Rattle.kernel.specs.declared.sem.SemaphoreReport.{SemaphoreReport}
@@ -12,7 +14,7 @@ use Rattle.kernel.specs.declared.dtq.QueueReport.{QueueReport}
 use Rattle.kernel.specs.View.{viewOf}
 use Rattle.kernel.specs.Valid.{Valid}
 use Rattle.batch.specs.declared.answer.Made.{Made}
-use Rattle.batch.specs.Encoding.{outcomeWord, answerTo, next}
+use Rattle.batch.specs.Encoding.{outcomeWord, wordsOf, noCall}
 
 -- the words of the answers that the operations give
 abbrev pub madeOf : Answer → Made
@@ -23,6 +25,15 @@ toldOfSemaphore r = record { words = ofZ w32 (r .code) ∷ 0 ∷ 0 ∷ 0 ∷ r .
 
 abbrev pub toldOfQueue : QueueReport → Made
 toldOfQueue r = record { words = ofZ w32 (r .code) ∷ 0 ∷ 0 ∷ 0 ∷ r .sender ∷ r .receiver ∷ r .count ∷ r .vector .normal1 ∷ r .vector .normal2 ∷ r .vector .management ∷ r .vector .reference ∷ []; state = r .state }
+
+-- what an item answers in a state of the model, and the state after it
+abbrev pub answerTo : Model.State → Option Call → List ℕ
+answerTo m none = noCall
+answerTo m (some c) = wordsOf (step m c .answer)
+
+abbrev pub next : Model.State → Option Call → Model.State
+next m none = m
+next m (some c) = step m c .state
 
 -- an item made on the state s: its answer's words, and what is seen of the state after it
 pub record Performs (s : State) (item : Option Call) (r : Made) : Type 0 where

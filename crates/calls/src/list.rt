@@ -31,7 +31,7 @@ impl List {
     }
 
     // The patterns of the last call's vector.
-    pub fn patterns(mut self, normal: u32, management: u32, reference: u32) -> List {
+    pub fn patterns(mut self, normal1: u32, normal2: u32, management: u32, reference: u32) -> List {
         let end = self.len;
         if end < CALL_WORDS {
             return self;
@@ -39,8 +39,8 @@ impl List {
         if LIST_WORDS < end {
             return self;
         }
-        self.words[end - 4] = normal;
-        self.words[end - 3] = normal;
+        self.words[end - 4] = normal1;
+        self.words[end - 3] = normal2;
         self.words[end - 2] = management;
         self.words[end - 1] = reference;
         self

@@ -1,4 +1,4 @@
-// The lists: runs S and Q of document 01, what is no call, answers without room.
+// The lists: runs S and Q of document 01, what refers tell, what is no call, answers without room.
 use crate::list::List;
 use crate::run::ANSWERS;
 use crate::run::show;
@@ -6,7 +6,9 @@ use batch::request::POL_SEM;
 use batch::request::PRCV_DTQ;
 use batch::request::PSND_DTQ;
 use batch::request::RCV_DTQ;
+use batch::request::REF_DTQ;
 use batch::request::REF_SEM;
+use batch::request::SAC_DTQ;
 use batch::request::SAC_SEM;
 use batch::request::SIG_SEM;
 use batch::request::SND_DTQ;
@@ -19,7 +21,7 @@ pub fn run_s() {
     list = list.with(WAI_SEM, 1, 1, 0);
     list = list.with(SIG_SEM, 1, 1, 0);
     list = list.with(SIG_SEM, 2, 1, 0);
-    list = list.with(SAC_SEM, 3, 1, 0).patterns(2, 0, 3);
+    list = list.with(SAC_SEM, 3, 1, 0).patterns(2, 2, 0, 3);
     list = list.with(SIG_SEM, 2, 1, 0);
     list = list.with(POL_SEM, 1, 1, 0);
     list = list.with(SIG_SEM, 2, 1, 0);
@@ -43,6 +45,24 @@ pub fn run_q() {
     show(b"\n\nQ", list, ANSWERS);
 }
 
+// Every word of an answer is told: a released receiver with its word, waiters of each kind, four different patterns.
+pub fn refers() {
+    let mut list = List::EMPTY;
+    list = list.with(SAC_DTQ, 3, 1, 0).patterns(1, 3, 2, 7);
+    list = list.with(RCV_DTQ, 4, 1, 0);
+    list = list.with(REF_DTQ, 1, 1, 0);
+    list = list.with(PSND_DTQ, 1, 1, 800);
+    list = list.with(PSND_DTQ, 1, 1, 801);
+    list = list.with(PSND_DTQ, 1, 1, 802);
+    list = list.with(SND_DTQ, 1, 1, 803);
+    list = list.with(REF_DTQ, 2, 1, 0);
+    list = list.with(WAI_SEM, 4, 1, 0);
+    list = list.with(WAI_SEM, 4, 1, 0);
+    list = list.with(REF_SEM, 2, 1, 0);
+    list = list.with(SAC_DTQ, 2, 1, 0).patterns(0, 0, 0, 0);
+    show(b"\n\nRefers", list, ANSWERS);
+}
+
 // The calls between them find the table as the one before left it.
 pub fn no_calls() {
     let mut list = List::EMPTY;
@@ -58,12 +78,15 @@ pub fn no_calls() {
     show(b"\n\nNo calls", list, ANSWERS);
 }
 
-// Room for one answer and a half: the second call is not made.
+// Room for one answer and some words more.
+const ONE_ANSWER_AND_MORE: usize = 16;
+
+// Where an answer has no room, its call is not made.
 pub fn short_answers() {
     let mut list = List::EMPTY;
     list = list.with(POL_SEM, 1, 1, 0);
     list = list.with(POL_SEM, 1, 1, 0);
-    show(b"\n\nAnswers without room", list, 16);
+    show(b"\n\nAnswers without room", list, ONE_ANSWER_AND_MORE);
     show(b"\n\nNo list", List::EMPTY, ANSWERS);
     show(b"\n\nNo room", list, 0);
 }

@@ -8,6 +8,7 @@ use text::print::text;
 fn main() {
     lists::run_s();
     lists::run_q();
+    lists::refers();
     lists::no_calls();
     lists::short_answers();
     text(b"\n");

@@ -12,7 +12,7 @@ use mir.Syntax.{w32}
 use mir.Val.{SFits}
 use lib.ListN.{length, drop, getD, drop-of-length-le}
 use borrow.Author.Tests.{lt-ltb, le-ltb, ltb-true, eq-eqb, ne-eqb}
-use Rattle.command.specs.Pick.{pick}
+use Rattle.access.specs.Patterns.{pick}
 use Rattle.command.specs.Numbers.{digitOf, valueFrom, fitted, magnitudeOf, plainEnd, negated, signedEnd, numberOf, plainOf, minusOf}
 use Rattle.command.specs.declared.number.Magnitude.the-variants.{Bad, Is}
 use Rattle.command.proofs.Walks.{next}

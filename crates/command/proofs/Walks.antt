@@ -10,7 +10,7 @@ use lib.Dec.{eqb}
 use lib.ListN.{length, take, drop, getD, drop-of-length-le, length-drop}
 use lib.Seq.{drop-cons, getD-take, drop-drop, drop-length, take-all, take-nil, length-take-le}
 use borrow.Author.Tests.{eq-eqb, ne-eqb}
-use Rattle.command.specs.Pick.{pick}
+use Rattle.access.specs.Patterns.{pick}
 use Rattle.command.specs.Lines.{pushed, gatheredOf, cut, withoutCr}
 use Rattle.command.specs.Texts.{isBlank, put, with, textFrom}
 use Rattle.command.specs.Words.{spaceAt, wordAt, spaces, wordCount}

@@ -1,4 +1,3 @@
-pub mod Pick
 pub mod Lines
 pub mod Texts
 pub mod Words

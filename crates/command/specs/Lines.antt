@@ -4,7 +4,7 @@ use mathlib.Core.Bool.{true, false}
 use mathlib.Core.List.{List, [], _∷_}
 use lib.ListN.{set, getD}
 use lib.Dec.{ltb, eqb}
-use Rattle.command.specs.Pick.{pick}
+use Rattle.access.specs.Patterns.{pick}
 use Rattle.command.specs.declared.line.Line.{Line}
 use Rattle.command.specs.declared.line.Gathered.{Gathered}
 

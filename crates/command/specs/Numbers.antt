@@ -6,7 +6,7 @@ use mathlib.Core.Option.{Option, none, some}
 use lib.IntN.{ℤ, pos, negsuc}
 use lib.ListN.{drop, getD}
 use lib.Dec.{eqb, ltb, leb}
-use Rattle.command.specs.Pick.{pick}
+use Rattle.access.specs.Patterns.{pick}
 use Rattle.command.specs.declared.number.Magnitude.{Magnitude}
 use Rattle.command.specs.declared.number.Magnitude.the-variants as Magnitude
 use Rattle.command.specs.declared.number.Number.{Number}

@@ -7,7 +7,7 @@ use crate::line::SIZE;
 
 const TAB: u8 = 9;
 
-const SPACE: u8 = 32;
+pub(crate) const SPACE: u8 = 32;
 
 const HASH: u8 = 35;
 

@@ -3,8 +3,7 @@ ghost use mathlib.Core.Path.{_≡_};
 ghost use Prim.Native.Nat.{suc, _+_, _≤_};
 ghost use lib.ListN.{length, drop};
 ghost use Rattle.command.specs.Words.{spaceAt, wordAt, wordCount};
-
-const SPACE: u8 = 32;
+use crate::text::SPACE;
 
 // The end of the word that starts at a place: the next space, or the text's end.
 fn end_of(text: &[u8], from: usize) -> usize

@@ -7,8 +7,8 @@ use Rattle.model.specs.State as Model
 use Rattle.kernel.specs.declared.state.State.{State}
 use Rattle.kernel.specs.View.{viewOf}
 use Rattle.batch.specs.declared.run.Ran.{Ran}
-use Rattle.batch.specs.Encoding.{answerWords, answersOf}
-use Rattle.batch.specs.Runs.{itemsMade, callsMade, Runs}
+use Rattle.batch.specs.Encoding.{answerWords, answersIn}
+use Rattle.batch.specs.Runs.{itemsMade, callsMade, historyMade, Runs}
 use Rattle.laws.specs.Starred.{bench}
 use Rattle.laws.proofs.Starred.{bench-just-closed}
 use Rattle.model.proofs.Demand3.{demand3}
@@ -18,6 +18,6 @@ pub hosted : {s : State} {calls before behind : List ℕ} {r : Ran} → viewOf s
 hosted {s} {calls} {before} {behind} {r} e h =
     record {
       answered = h .answered;
-      answers = h .answers ∙ ap (λ (m : Model.State). answersOf m (itemsMade calls before) ++ drop (r .answered * answerWords) before) e;
+      answers = h .answers ∙ ap (λ (m : Model.State). answersIn (itemsMade calls before) (historyMade m calls before) ++ drop (r .answered * answerWords) before) e;
       demand = demand3 bench bench-just-closed (callsMade calls before);
     }

@@ -5,10 +5,11 @@ use mathlib.Core.Path.{_≡_, refl, sym, ap, _∙_}
 use mathlib.Core.Bool.{Bool, true, false, not, _&&_, and-true, and-false}
 use mathlib.Core.List.{[], _∷_, _++_}
 use mathlib.Core.Option.{Option, none, some}
-use lib.Dec.{eqb, leb, ltb, ltb→lt, leb→le}
+use lib.Dec.{eqb, leb}
 use lib.IntN.{ℤ, pos, negsuc}
 use lib.ListN.{length}
 use borrow.Author.Tests.{le-leb, lt-leb}
+use borrow.Author.Tests.{ltb-true, leb-true}
 use Rattle.access.specs.Patterns.{pick, ordinalOf}
 use Rattle.access.specs.declared.vector.Choice.{Choice}
 use Rattle.access.proofs.Ordinals.{ordinal-user, ordinal-none}
@@ -158,24 +159,18 @@ module _ {s : State} (v : Valid s) where
       ∙ ap (λ (b : Bool). enteredOf (closeBy b (viewOf s))) (sym h)
 
 -- ---- what a taken entry has passed
-lt-of : (m n : ℕ) → ltb m n ≡ true → m < n
-lt-of m n h = ltb→lt m n (rw h tt)
-
-le-of : (m n : ℕ) → leb m n ≡ true → m ≤ n
-le-of m n h = leb→le m n (rw h tt)
-
 module _ (m : Model.State) where
   pub task-room : (d : ℤ) → checkEntry m (task d) ≡ none → (length (m .fixed .domains) < maxTasks) × (m .fixed .closed ≡ false)
-  task-room d h = let t = taken m (task d) h in (lt-of (length (m .fixed .domains)) maxTasks (t .room), t .opened)
+  task-room d h = let t = taken m (task d) h in (ltb-true (length (m .fixed .domains)) maxTasks (t .room), t .opened)
 
   pub sem-room : (d : ℤ) (a b n : ℕ) (c : Choice) → checkEntry m (sem d a b n c) ≡ none → length (m .sems) < maxSemaphores
-  sem-room d a b n c h = lt-of (length (m .sems)) maxSemaphores (taken m (sem d a b n c) h .room)
+  sem-room d a b n c h = ltb-true (length (m .sems)) maxSemaphores (taken m (sem d a b n c) h .room)
 
   pub queue-room : (d : ℤ) (a n : ℕ) (c : Choice) → checkEntry m (queue d a n c) ≡ none → (length (m .queues) < maxQueues) × (wordsUsed (m .queues) + n ≤ maxWords)
-  queue-room d a n c h = let t = taken m (queue d a n c) h in (lt-of (length (m .queues)) maxQueues (t .room), le-of (wordsUsed (m .queues) + n) maxWords (t .memory))
+  queue-room d a n c h = let t = taken m (queue d a n c) h in (ltb-true (length (m .queues)) maxQueues (t .room), leb-true (wordsUsed (m .queues) + n) maxWords (t .memory))
 
   pub region-room : (d : ℤ) (a b z : ℕ) (c : Choice) → checkEntry m (region d a b z c) ≡ none → length (m .fixed .regions) < maxRegions
-  region-room d a b z c h = lt-of (length (m .fixed .regions)) maxRegions (taken m (region d a b z c) h .room)
+  region-room d a b z c h = ltb-true (length (m .fixed .regions)) maxRegions (taken m (region d a b z c) h .room)
 
 -- ---- the verdict's first checks
 module _ (s : State) (d : ℤ) (base size w : ℕ) where

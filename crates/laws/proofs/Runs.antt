@@ -25,6 +25,7 @@ use Rattle.model.specs.Answers as Answers
 use Rattle.model.proofs.Lists.{all-snoc}
 use Rattle.model.proofs.Steps.{info-law}
 use Rattle.model.proofs.Refers.{refer-state, refer-reply, refer-receiver}
+use Rattle.model.proofs.Owners.{Owners, owners-fresh, owners-enter, owners-close, owners-step}
 use Rattle.model.proofs.Demand3.{demand3}
 use Rattle.model.proofs.Turns.{in-turn}
 use Rattle.kernel.specs.declared.state.State.{State}
@@ -155,3 +156,19 @@ turns {s₁} v p e ahead behind w = record { still = still; served = served }
         ap (λ (x : Answer). x .released .task) (d .same)
         ∙ ap (λ (x : Model.State). Answers.releasedOf (step x c .answer .released) .task) m
         ∙ one (step (after (viewOf s₁) cs) c .answer .released) (t .served cs c n (subst (λ (x : Model.State). serves p (event x c) ≡ 1) m o))
+
+-- ---- no task of a run has a domain above n, so that a pattern's bits above n admit nobody (`above-nobody`)
+pub owners-built : {s : State} → Built s → Owners (viewOf s .fixed)
+owners-built (begun n r g) = subst (λ (m : Model.State). Owners (m .fixed)) (sym (g .seen)) (owners-fresh n)
+owners-built (entered s b i r g) = subst (λ (m : Model.State). Owners (m .fixed)) (sym (g .seen)) (owners-enter (viewOf s) i (owners-built b))
+
+pub owners-closed : {s : State} {r : Entered} → Built s → Enters s (close (viewOf s)) r → Owners (viewOf (r .state) .fixed)
+owners-closed {s} b g = subst (λ (m : Model.State). Owners (m .fixed)) (sym (g .seen)) (owners-close (viewOf s) (owners-built b))
+
+pub owners-ran : {s₀ s : State} {cs : List Call} {l : List Said} → Owners (viewOf s₀ .fixed) → Ran s₀ cs s l → Owners (viewOf s .fixed)
+unfolding after
+owners-ran {s₀} {s} {cs} o h = subst (λ (m : Model.State). Owners (m .fixed)) (sym (state-of h)) (kept cs)
+  where
+    kept : (cs : List Call) → Owners (after (viewOf s₀) cs .fixed)
+    kept [] = o
+    kept (c ∷ cs) = owners-step (after (viewOf s₀) cs) c (kept cs)

@@ -55,6 +55,10 @@ and-right false b h = absurd (no-both h refl)
 pub both : {a b : Bool} → a ≡ true → b ≡ true → a && b ≡ true
 both {a} {b} p q = rw (p, q) refl
 
+-- ---- a list with an element is not empty
+pub cons-ne : {A : Type 0} {x : A} {l m : List A} → m ≡ x ∷ l → m ≡ [] → ⊥
+cons-ne p q = let z : _≡_ {A = ℕ} 0 1 = cc in omega arith
+
 -- ---- numbered lists
 module _ {A : Type 0} where
   -- a number past the list, and one within it by its index

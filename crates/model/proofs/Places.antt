@@ -43,7 +43,7 @@ no-such-object s t op k r h = id-when s t op r (λ i. none (kindOf op) (no (numb
     none semaphore n z i = i .0 z
     none queue n z i = i .0 z
 
--- only a refer is one
+-- what counts as a refer (isRefer) is a refer
 pub refer-only : (op : Op) → isRefer op ≡ true → (k : Kind) × ((n : ℤ) × (op ≡ refer k n))
 refer-only (signal n) h = absurd (no-both h refl)
 refer-only (acquire p n) h = absurd (no-both h refl)

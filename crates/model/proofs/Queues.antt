@@ -14,7 +14,7 @@ use Rattle.model.specs.Demand3.{wordsIn}
 use Rattle.model.specs.Lists.{consIf}
 use Rattle.model.specs.State.{Waiter, Place, Side, onSem, receiving, sending, State, place, sameSide, samePlace}
 use Rattle.model.specs.Waits.{standsAt, waitersAt, senders, receivers}
-use Rattle.model.proofs.Lists.{eq-of, ne-of, no-both, and-left, and-right, eqb-same, eqb-no, keep-append, Distinct, leave-same, leave-other}
+use Rattle.model.proofs.Lists.{eq-of, ne-of, no-both, and-left, and-right, eqb-same, eqb-no, keep-append, Distinct, leave-same, leave-other, cons-ne}
 
 pub qview-eq : {c c′ : ℕ} {b b′ : List ℕ} {x x′ y y′ : List Waiter} → c ≡ c′ → b ≡ b′ → x ≡ x′ → y ≡ y′ → qview c b x y ≡ qview c′ b′ x′ y′
 qview-eq p q r s = λ i. record { capacity = p i; buffer = q i; senders = r i; receivers = s i }
@@ -31,13 +31,6 @@ pub record Kept (v v′ : QView) (given taken : List ℕ) : Type 0 where
 -- ---- the laws of one queue
 pub stay : (v v′ : QView) → v′ ≡ v → QueueOk v → Kept v v′ [] []
 stay v v′ e k = record { flow = rw e (sym (append-nil (content v))); fine = rw e k }
-
-pub snoc-ne : {A : Type 0} (l : List A) (x : A) → l ++ (x ∷ []) ≡ [] → ⊥
-snoc-ne [] x h = let z : _≡_ {A = ℕ} 0 1 = cc in omega arith
-snoc-ne (y ∷ l) x h = let z : _≡_ {A = ℕ} 0 1 = cc in omega arith
-
-cons-ne : {A : Type 0} {x : A} {l m : List A} → m ≡ x ∷ l → m ≡ [] → ⊥
-cons-ne p q = let z : _≡_ {A = ℕ} 0 1 = cc in omega arith
 
 module _ (c : ℕ) (b : List ℕ) (x y : List Waiter) (k : QueueOk (qview c b x y)) where
   -- a receiver waits, so nothing is held

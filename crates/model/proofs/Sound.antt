@@ -3,11 +3,12 @@ use mathlib.Core.Path.{_≡_, refl, sym, ap, _∙_, subst, subst₂}
 use mathlib.Core.Logic.{_≢_, inl, inr}
 use mathlib.Core.Bool.{Bool, true, false, not}
 use mathlib.Core.List.{List, [], _∷_, _++_}
-use Prim.Native.Nat.{ℕ, zero, suc, _+_, _≤_, _<_}
+use Prim.Native.Nat.{ℕ, zero, suc, _+_, _≤_}
 use native.Mathlib.Omega.{arith}
 use lib.ListN.{length, length-append}
-use lib.Dec.{eqb, leb, nleb→lt}
+use lib.Dec.{eqb}
 use lib.IntN.{ℤ}
+use borrow.Author.Tests.{ltb-true, leb-false}
 use Rattle.itron.specs.Codes.{eCtx}
 use Rattle.model.proofs.Cases.{setCount, setSem, setQueue, release, join}
 use Rattle.model.specs.Answers.{Out, refuse}
@@ -17,16 +18,10 @@ use Rattle.model.specs.Lists.{at, put, keep, consIf, All}
 use Rattle.model.specs.Queues.{wordsUsed}
 use Rattle.model.specs.State.{Vector, Fixed, Sem, Queue, onSem, receiving, sending, Place, Waiter, State, place, samePlace, noSem, noQueue, semAt, queueAt, waiter}
 use Rattle.model.specs.Waits.{isOther, absent, waitersAt}
-use Rattle.model.proofs.Lists.{all-keep, all-snoc, all-put, eq-of, ne-of, Distinct, distinct-keep, distinct-snoc, keep-absent, at-put-same, at-put-other, at-put-keep, length-put}
+use Rattle.model.proofs.Lists.{all-keep, all-snoc, all-put, eq-of, ne-of, Distinct, distinct-keep, distinct-snoc, keep-absent, at-put-same, at-put-other, at-put-keep, length-put, cons-ne}
 use Rattle.model.proofs.Cover.{Covers, cover}
 use Rattle.model.proofs.Queues.{release-other, join-other, unlike}
-use Rattle.model.proofs.Steps.{lt-of, fixed-law, queue-law}
-
-gt-of : (m n : ℕ) → leb m n ≡ false → n < m
-gt-of m n h = nleb→lt m n (rw h tt)
-
-cons-ne : {A : Type 0} {x : A} {l m : List A} → m ≡ x ∷ l → m ≡ [] → ⊥
-cons-ne p q = let z : _≡_ {A = ℕ} 0 1 = cc in omega arith
+use Rattle.model.proofs.Steps.{fixed-law, queue-law}
 
 -- ---- a semaphore's count is at most its limit
 within-set : (s : State) (n k : ℕ) → n ≢ 0 → n ≤ length (s .sems) → k ≤ semAt s n .max → Within s → Within (setCount s n k)
@@ -50,7 +45,7 @@ within-cases : (s : State) → Within s → Covers s WithinLaw
 within-cases s w = record {
   refused = λ c e. w;
   signalWakes = λ t n a e l h. w;
-  signalCounts = λ t n a h r. within-set s (no n) (suc (semAt s (no n) .count)) (a .numbered) (a .there) (gt-of _ _ r) w;
+  signalCounts = λ t n a h r. within-set s (no n) (suc (semAt s (no n) .count)) (a .numbered) (a .there) (leb-false _ _ r) w;
   acquires = λ t n p a m h. within-set s (no n) m (a .numbered) (a .there) (let b = w (no n) in omega arith) w;
   acquireWaits = λ t n a h. w;
   sendPasses = λ t n x p a e l h. w;
@@ -227,7 +222,7 @@ fit-cases s f = record {
   acquires = λ t n p a m h. fit-sem f (no n) _;
   acquireWaits = λ t n a h. fit-join f (waiter (no t) onSem (no n) 0) (a .free) (a .caller, a .known) (a .numbered, refl);
   sendPasses = λ t n x p a e l h. fit-release f (e .task);
-  sendStores = λ t n x p a h r. fit-queue f (no n) _ refl (let b = lt-of (length (queueAt s (no n) .buffer)) (queueAt s (no n) .capacity) r in rw (length-append (queueAt s (no n) .buffer) (x ∷ [])) (omega arith));
+  sendStores = λ t n x p a h r. fit-queue f (no n) _ refl (let b = ltb-true (length (queueAt s (no n) .buffer)) (queueAt s (no n) .capacity) r in rw (length-append (queueAt s (no n) .buffer) (x ∷ [])) (omega arith));
   sendWaits = λ t n x a h r. fit-join f (waiter (no t) sending (no n) x) (a .free) (a .caller, a .known) (a .numbered, tt);
   receives = λ t n p a x b h r. fit-queue f (no n) _ refl (let c = buffer-fits (f .queues) (no n) in let d : length (queueAt s (no n) .buffer) ≡ suc (length b) = ap length h in omega arith);
   receiveRefills = λ t n p a x b e l h r. fit-release (fit-queue f (no n) (record { domain = queueAt s (no n) .domain; attribute = queueAt s (no n) .attribute; capacity = queueAt s (no n) .capacity; buffer = b ++ (e .word ∷ []); vector = queueAt s (no n) .vector }) refl (let c = buffer-fits (f .queues) (no n) in let d : length (queueAt s (no n) .buffer) ≡ suc (length b) = ap length h in rw (length-append b (e .word ∷ [])) (omega arith))) (e .task);

@@ -3,11 +3,12 @@ use mathlib.Core.Path.{_≡_, refl, sym, ap, _∙_}
 use mathlib.Core.Logic.{_≢_}
 use mathlib.Core.Bool.{Bool, true, false, _&&_}
 use mathlib.Core.List.{List, [], _∷_, _++_, append-nil}
-use Prim.Native.Nat.{ℕ, suc, _+_, _≤_, _<_}
+use Prim.Native.Nat.{ℕ, suc, _+_, _≤_}
 use native.Mathlib.Omega.{arith}
 use lib.ListN.{length}
-use lib.Dec.{eqb, ltb, ltb→lt, nltb→le}
+use lib.Dec.{eqb}
 use lib.IntN.{ℤ}
+use borrow.Author.Tests.{ltb-true, ltb-false}
 use Rattle.itron.specs.Codes.{Err, Code, ok, waiting, error}
 use Rattle.model.proofs.Cases.{setWaits, setCount, setBuffer, release, join}
 use Rattle.model.specs.Answers.{noInfo, Out}
@@ -19,12 +20,6 @@ use Rattle.model.specs.Waits.{isOther, waitersAt}
 use Rattle.model.proofs.Lists.{eq-of, ne-of, no-both, Distinct, distinct-keep, distinct-snoc, at-put-same, at-put-other, at-put-keep, length-put}
 use Rattle.model.proofs.Cover.{Covers, cover}
 use Rattle.model.proofs.Queues.{qview, qview-eq, qviewOf, QueueOk, Kept, stay, split, via, pass, store, queueUp, take, refill, direct, await, release-same, release-other, join-same, join-other, unlike, alike}
-
-pub lt-of : (m n : ℕ) → ltb m n ≡ true → m < n
-lt-of m n h = ltb→lt m n (rw h tt)
-
-pub ge-of : (m n : ℕ) → ltb m n ≡ false → n ≤ m
-ge-of m n h = nltb→le m n (rw h tt)
 
 -- ---- the queues
 module _ (s : State) (n : ℕ) (b : List ℕ) where
@@ -55,11 +50,11 @@ queue-cases s d q k = record {
       (λ u. qview-eq refl refl (gone receiving sending n e l refl h) (gone receiving receiving n e l (unlike receiving receiving q (no n) u) h))
       k;
   sendStores = λ t n w p a h r. let b = queueAt s (no n) .buffer ++ (w ∷ []) in split s (setBuffer s (no n) b) q (no n) (λ c. only c []) (λ c. only c (w ∷ [])) refl refl
-      (λ f. via (buffer-same s (no n) b (a .numbered) (a .there) _ _) (store _ _ _ _ f w h (lt-of _ _ r)))
+      (λ f. via (buffer-same s (no n) b (a .numbered) (a .there) _ _) (store _ _ _ _ f w h (ltb-true _ _ r)))
       (λ u. buffer-other s (no n) b q u _ _)
       k;
   sendWaits = λ t n w a h r. let e = waiter (no t) sending (no n) w in split s (join s e) q (no n) (λ c. []) (λ c. only c (w ∷ [])) refl refl
-      (λ f. via (qview-eq refl refl (join-same s e (place sending (no n)) (alike sending (no n))) (join-other s e (place receiving (no n)) refl)) (queueUp _ _ _ _ f e h (ge-of _ _ r)))
+      (λ f. via (qview-eq refl refl (join-same s e (place sending (no n)) (alike sending (no n))) (join-other s e (place receiving (no n)) refl)) (queueUp _ _ _ _ f e h (ltb-false _ _ r)))
       (λ u. qview-eq refl refl (join-other s e (place sending q) (unlike sending sending q (no n) u)) (join-other s e (place receiving q) refl))
       k;
   receives = λ t n p a x b h r. split s (setBuffer s (no n) b) q (no n) (λ c. only c (x ∷ [])) (λ c. []) refl refl

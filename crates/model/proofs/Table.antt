@@ -4,11 +4,12 @@ use mathlib.Core.Logic.{inl}
 use mathlib.Core.Bool.{Bool, true, false, not, _&&_}
 use mathlib.Core.List.{List, [], _∷_, _++_}
 use mathlib.Core.Option.{Option, none, some}
-use Prim.Native.Nat.{ℕ, zero, suc, _+_, _≤_, _<_}
+use Prim.Native.Nat.{ℕ, zero, suc, _+_, _≤_}
 use native.Mathlib.Omega.{arith}
 use lib.ListN.{length, length-append}
-use lib.Dec.{ltb, leb, ltb→lt, leb→le}
+use lib.Dec.{leb}
 use lib.IntN.{ℤ, pos, negsuc}
+use borrow.Author.Tests.{ltb-true, leb-true}
 use Rattle.itron.specs.Codes.{Err, ok, error}
 use Rattle.model.specs.Answers.{refuseIf}
 use Rattle.model.specs.Conditions.{BufferFits, Bounded, Ascending, Spent, QueueOk, qviewOf, Sound}
@@ -19,12 +20,6 @@ use Rattle.model.specs.Table.{Entry, task, sem, queue, region, hasRoom, 
 use Rattle.itron.specs.Limits.{maxTasks, maxSemaphores, maxQueues, maxRegions, maxWords, maxCount, maxDomains, addressEnd}
 use Rattle.model.specs.Regions.{lastEnd}
 use Rattle.model.proofs.Lists.{and-left, and-right, no-both, all-snoc}
-
-lt-of : (m n : ℕ) → ltb m n ≡ true → m < n
-lt-of m n h = ltb→lt m n (rw h tt)
-
-le-of : (m n : ℕ) → leb m n ≡ true → m ≤ n
-le-of m n h = leb→le m n (rw h tt)
 
 pass : (b : Bool) (e : Err) (r : Option Err) → refuseIf (not b) e r ≡ none → (b ≡ true) × (r ≡ none)
 pass false e r h = absurd (let z : _≡_ {A = Bool} true false = cc in no-both {b = true} refl z)
@@ -86,7 +81,7 @@ sound-add : (s : State) (i : Entry) → Sound s → Taken s i → Sound (add s i
 sound-add s (task d) k t =
     let w = k .quiet (t .opened) in
     let f = k .fit in
-    let r = lt-of (length (s .fixed .domains)) maxTasks (t .room) in
+    let r = ltb-true (length (s .fixed .domains)) maxTasks (t .room) in
     let a = length-append (s .fixed .domains) (d ∷ []) in
     record {
       fit = record { waits = record { tasks = omega arith; distinct = f .waits .distinct; known = rw w tt; plain = f .waits .plain }; sems = f .sems; queues = f .queues; regions = f .regions };
@@ -98,12 +93,12 @@ sound-add s (task d) k t =
 sound-add s (sem d a b m v) k t =
     let w = k .quiet (t .opened) in
     let f = k .fit in
-    let r = lt-of (length (s .sems)) maxSemaphores (t .room) in
+    let r = ltb-true (length (s .sems)) maxSemaphores (t .room) in
     let x = newSem d a b m v in
     let n = length-append (s .sems) (x ∷ []) in
     record {
       fit = record { waits = f .waits; sems = omega arith; queues = f .queues; regions = f .regions };
-      within = all-of (λ (y : Sem). y .count ≤ y .max) noSem (s .sems) x (omega arith) (le-of b m (and-right (leb 1 m && leb m maxCount) (leb b m) (t .numbers))) (k .within);
+      within = all-of (λ (y : Sem). y .count ≤ y .max) noSem (s .sems) x (omega arith) (leb-true b m (and-right (leb 1 m && leb m maxCount) (leb b m) (t .numbers))) (k .within);
       spent = still-spent (add s (sem d a b m v)) w;
       fine = k .fine;
       quiet = k .quiet;
@@ -111,11 +106,11 @@ sound-add s (sem d a b m v) k t =
 sound-add s (queue d a c v) k t =
     let w = k .quiet (t .opened) in
     let f = k .fit .queues in
-    let r = lt-of (length (s .queues)) maxQueues (t .room) in
+    let r = ltb-true (length (s .queues)) maxQueues (t .room) in
     let x = newQueue d a c v in
     let n = length-append (s .queues) (x ∷ []) in
     let u = used-snoc (s .queues) x in
-    let l = le-of (wordsUsed (s .queues) + c) maxWords (t .memory) in
+    let l = leb-true (wordsUsed (s .queues) + c) maxWords (t .memory) in
     record {
       fit = record { waits = k .fit .waits; sems = k .fit .sems; queues = record { few = omega arith; words = omega arith; buffers = all-snoc BufferFits (s .queues) x (f .buffers) (omega arith) }; regions = k .fit .regions };
       within = k .within;
@@ -126,13 +121,13 @@ sound-add s (queue d a c v) k t =
 sound-add s (region d a b z v) k t =
     let f = k .fit .regions in
     let rs = s .fixed .regions in
-    let r = lt-of (length rs) maxRegions (t .room) in
+    let r = ltb-true (length rs) maxRegions (t .room) in
     let x = newRegion d a b z v in
     let n = length-append rs (x ∷ []) in
-    let p = le-of 1 z (and-left (leb 1 z) (leb (b + z) addressEnd) (t .numbers)) in
-    let q = le-of (b + z) addressEnd (and-right (leb 1 z) (leb (b + z) addressEnd) (t .numbers)) in
+    let p = leb-true 1 z (and-left (leb 1 z) (leb (b + z) addressEnd) (t .numbers)) in
+    let q = leb-true (b + z) addressEnd (and-right (leb 1 z) (leb (b + z) addressEnd) (t .numbers)) in
     record {
-      fit = record { waits = k .fit .waits; sems = k .fit .sems; queues = k .fit .queues; regions = record { few = omega arith; bounded = all-snoc Bounded rs x (f .bounded) (p, q); ascending = ascending-snoc rs x (f .ascending) (le-of (lastEnd rs) b (t .place)) } };
+      fit = record { waits = k .fit .waits; sems = k .fit .sems; queues = k .fit .queues; regions = record { few = omega arith; bounded = all-snoc Bounded rs x (f .bounded) (p, q); ascending = ascending-snoc rs x (f .ascending) (leb-true (lastEnd rs) b (t .place)) } };
       within = k .within;
       spent = k .spent;
       fine = k .fine;

@@ -18,7 +18,7 @@ use Rattle.model.specs.Lists.{consIf}
 use Rattle.model.specs.State.{Vector, onSem, receiving, sending, Place, Waiter, State, place, samePlace, semAt, queueAt, waiter}
 use Rattle.model.specs.Waits.{standsAt, waitersAt, freed}
 use Rattle.model.specs.Turns.{servesBy, serves, tasksOf, InTurn}
-use Rattle.model.proofs.Lists.{keep-append, Distinct}
+use Rattle.model.proofs.Lists.{keep-append, Distinct, cons-ne}
 use Rattle.model.proofs.Cover.{Covers, cover}
 use Rattle.model.proofs.Queues.{place-of, release-same, release-other}
 use Rattle.model.proofs.Steps.{distinct-law}
@@ -31,9 +31,6 @@ Turn s p x l s′ a n =
 
 abbrev TurnLaw : State → Place → Call → Out → Type 0
 TurnLaw s p c o = (x : Waiter) (l : List Waiter) → waitersAt s p ≡ x ∷ l → Turn s p x l (o .state) (o .answer) (servesBy p (c .op) (o .answer .code))
-
-cons-ne : {A : Type 0} {x : A} {l m : List A} → m ≡ x ∷ l → m ≡ [] → ⊥
-cons-ne p q = let z : _≡_ {A = ℕ} 0 1 = cc in omega arith
 
 module _ (s : State) (d : Distinct (s .waits)) (p : Place) where
   -- the waiters stay

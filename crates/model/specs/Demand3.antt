@@ -121,7 +121,7 @@ pub record Demand3 (s₀ : State) (h : History) (s : State) : Type 0 where
   -- for every semaphore: count + grants = start + accepted signals
   pub counted : (i : ℕ) → semAt s i .count + total (grants i) h ≡ semAt s₀ i .count + total (signals i) h
 
--- what is known of a table just closed: nobody waits and nothing is buffered
+-- what demand 3 needs of a table just closed: nobody waits and nothing is buffered (an open table, which refuses every call, has it too)
 pub record JustClosed (s : State) : Type 0 where
   pub noWaits : s .waits ≡ []
   pub noWords : (q : ℕ) → queueAt s q .buffer ≡ []

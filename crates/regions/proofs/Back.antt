@@ -8,7 +8,6 @@ use Rattle.arrays.specs.Pad.{pad}
 use Rattle.arrays.proofs.Pads.{pad-take}
 use Rattle.model.specs.State.{Region}
 use Rattle.model.specs.Conditions.{RegionsFit}
-use Rattle.regions.specs.declared.state.Regions.{Regions}
 use Rattle.regions.specs.View.{zip, regionsOf}
 use Rattle.regions.specs.Form.{baseOf, sizeOf, protectionOf, noProtection, regionsAs}
 use Rattle.regions.specs.Held.{Held}
@@ -36,7 +35,3 @@ held-as rs f =
       fit = subst (λ (l : List Region). RegionsFit l) (sym (back-regions rs)) f;
       few = f .few;
     }
-
--- what is seen pins the arrays down
-pub faithful-regions : {r r′ : Regions} → Held r → Held r′ → regionsOf r ≡ regionsOf r′ → r ≡ r′
-faithful-regions h h′ e = h .form ∙ ap regionsAs e ∙ sym (h′ .form)

@@ -6,9 +6,10 @@ use report::object::Kind;
 use report::object::count_of;
 use report::object::put_counts;
 use report::object::put_object;
+use report::output::BLOCK;
 
 // The lines of a kind, in order of the numbers.
-fn put_objects(out: &mut [u8; 4096], at: usize, state: State, kind: Kind) -> usize
+fn put_objects(out: &mut [u8; BLOCK], at: usize, state: State, kind: Kind) -> usize
     requires { ⌜ Valid state ⌝ }
 {
     let count = count_of(state, kind);
@@ -22,7 +23,7 @@ fn put_objects(out: &mut [u8; 4096], at: usize, state: State, kind: Kind) -> usi
     end
 }
 
-pub fn put_state(out: &mut [u8; 4096], at: usize, state: State) -> usize
+pub fn put_state(out: &mut [u8; BLOCK], at: usize, state: State) -> usize
     requires { ⌜ Valid state ⌝ }
 {
     let at = put_counts(out, at, state);

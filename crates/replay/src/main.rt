@@ -1,6 +1,7 @@
 // Commands from standard input, one to a line, made on the kernel; each with its answer on standard output (docs/replay.md).
 ghost use Rattle.kernel.specs.Valid.{Valid};
 use kernel::state::State;
+use report::output::BLOCK;
 use session::Session;
 
 mod dump;
@@ -13,8 +14,8 @@ mod session;
 fn run(start: State)
     requires { ⌜ Valid start ⌝ }
 {
-    let mut block = [0u8; 4096];
-    let mut out = [0u8; 4096];
+    let mut block = [0u8; BLOCK];
+    let mut out = [0u8; BLOCK];
     let mut session = Session::begin(start);
     let mut turns = u64::MAX;
     while turns > 0 && session.going {

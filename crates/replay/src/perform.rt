@@ -11,6 +11,7 @@ use kernel::state::Entered;
 use kernel::state::State;
 use report::names::put_code;
 use report::object::LF;
+use report::output::BLOCK;
 use report::output::put;
 use report::output::put_byte;
 use report::show::put_answer;
@@ -25,7 +26,7 @@ pub struct Made {
 }
 
 // The answers that are only text leave the state as it is.
-fn told(out: &mut [u8; 4096], at: usize, state: State) -> Made
+fn told(out: &mut [u8; BLOCK], at: usize, state: State) -> Made
     requires { ⌜ Valid state ⌝ }
     ensures { λ r. ⌜ Valid (r .state) ⌝ }
 {
@@ -35,7 +36,7 @@ fn told(out: &mut [u8; 4096], at: usize, state: State) -> Made
     }
 }
 
-fn entered(out: &mut [u8; 4096], at: usize, answer: Entered) -> Made
+fn entered(out: &mut [u8; BLOCK], at: usize, answer: Entered) -> Made
     requires { ⌜ Valid (answer .state) ⌝ }
     ensures { λ r. ⌜ Valid (r .state) ⌝ }
 {
@@ -44,7 +45,7 @@ fn entered(out: &mut [u8; 4096], at: usize, answer: Entered) -> Made
     told(out, at, state)
 }
 
-fn answered(out: &mut [u8; 4096], at: usize, answer: Answer) -> Made
+fn answered(out: &mut [u8; BLOCK], at: usize, answer: Answer) -> Made
     requires { ⌜ Valid (answer .state) ⌝ }
     ensures { λ r. ⌜ Valid (r .state) ⌝ }
 {
@@ -53,7 +54,7 @@ fn answered(out: &mut [u8; 4096], at: usize, answer: Answer) -> Made
     told(out, at, state)
 }
 
-fn enter(out: &mut [u8; 4096], at: usize, state: State, entry: Entry) -> Made
+fn enter(out: &mut [u8; BLOCK], at: usize, state: State, entry: Entry) -> Made
     requires { ⌜ Valid state ⌝ }
     ensures { λ r. ⌜ Valid (r .state) ⌝ }
 {
@@ -65,7 +66,7 @@ fn enter(out: &mut [u8; 4096], at: usize, state: State, entry: Entry) -> Made
     }
 }
 
-fn refer_semaphore(out: &mut [u8; 4096], at: usize, state: State, task: i32, id: i32) -> Made
+fn refer_semaphore(out: &mut [u8; BLOCK], at: usize, state: State, task: i32, id: i32) -> Made
     requires { ⌜ Valid state ⌝ }
     ensures { λ r. ⌜ Valid (r .state) ⌝ }
 {
@@ -75,7 +76,7 @@ fn refer_semaphore(out: &mut [u8; 4096], at: usize, state: State, task: i32, id:
     told(out, at, state)
 }
 
-fn refer_queue(out: &mut [u8; 4096], at: usize, state: State, task: i32, id: i32) -> Made
+fn refer_queue(out: &mut [u8; BLOCK], at: usize, state: State, task: i32, id: i32) -> Made
     requires { ⌜ Valid state ⌝ }
     ensures { λ r. ⌜ Valid (r .state) ⌝ }
 {
@@ -86,7 +87,7 @@ fn refer_queue(out: &mut [u8; 4096], at: usize, state: State, task: i32, id: i32
 }
 
 fn call_semaphore(
-    out: &mut [u8; 4096],
+    out: &mut [u8; BLOCK],
     at: usize,
     state: State,
     task: i32,
@@ -106,7 +107,7 @@ fn call_semaphore(
 }
 
 fn call_queue(
-    out: &mut [u8; 4096],
+    out: &mut [u8; BLOCK],
     at: usize,
     state: State,
     task: i32,
@@ -127,7 +128,7 @@ fn call_queue(
 }
 
 // Makes a command and puts its answer and the line's end; a blank one puts nothing.
-pub fn perform(out: &mut [u8; 4096], at: usize, state: State, command: Command) -> Made
+pub fn perform(out: &mut [u8; BLOCK], at: usize, state: State, command: Command) -> Made
     requires { ⌜ Valid state ⌝ }
     ensures { λ r. ⌜ Valid (r .state) ⌝ }
 {

@@ -11,6 +11,7 @@ use command::request::requested;
 use command::text::Text;
 use kernel::state::State;
 use libc::STDIN_FILENO;
+use report::output::BLOCK;
 use report::output::put;
 
 pub struct Session {
@@ -27,7 +28,7 @@ pub struct Session {
     pub going: bool,
 }
 
-fn put_echo(out: &mut [u8; 4096], at: usize, echo: Text) -> usize
+fn put_echo(out: &mut [u8; BLOCK], at: usize, echo: Text) -> usize
     requires { ⌜ echo .count ≤ 256 ⌝ }
 {
     let bytes = echo.bytes;
@@ -37,7 +38,7 @@ fn put_echo(out: &mut [u8; 4096], at: usize, echo: Text) -> usize
 }
 
 // Makes a whole line: its echo and its answer are put.
-fn obey(out: &mut [u8; 4096], at: usize, state: State, line: Line, ended: bool) -> Made
+fn obey(out: &mut [u8; BLOCK], at: usize, state: State, line: Line, ended: bool) -> Made
     requires { ⌜ Valid state ⌝ }
     ensures { λ r. ⌜ Valid (r .state) ⌝ }
 {
@@ -76,7 +77,7 @@ impl Session {
     }
 
     // The line that an LF ended is made.
-    fn with_line(self, out: &mut [u8; 4096], line: Line, next: usize) -> Session
+    fn with_line(self, out: &mut [u8; BLOCK], line: Line, next: usize) -> Session
         requires { ⌜ Valid (self .state) ⌝ }
         ensures { λ r. ⌜ Valid (r .state) ⌝ }
     {
@@ -93,7 +94,7 @@ impl Session {
     }
 
     // The block is used up: what was put goes out, and the next bytes come in.
-    fn with_block(self, block: &mut [u8; 4096], out: &mut [u8; 4096], line: Line) -> Session
+    fn with_block(self, block: &mut [u8; BLOCK], out: &mut [u8; BLOCK], line: Line) -> Session
         requires { ⌜ Valid (self .state) ⌝ }
         ensures { λ r. ⌜ Valid (r .state) ⌝ }
     {
@@ -112,7 +113,7 @@ impl Session {
     }
 
     // Takes bytes up to the end of a line or of the block.
-    pub fn turn(self, block: &mut [u8; 4096], out: &mut [u8; 4096]) -> Session
+    pub fn turn(self, block: &mut [u8; BLOCK], out: &mut [u8; BLOCK]) -> Session
         requires { ⌜ Valid (self .state) ⌝ }
         ensures { λ r. ⌜ Valid (r .state) ⌝ }
     {
@@ -128,7 +129,7 @@ impl Session {
     }
 
     // The last line may lack its LF.
-    pub fn finish(self, out: &mut [u8; 4096])
+    pub fn finish(self, out: &mut [u8; BLOCK])
         requires { ⌜ Valid (self .state) ⌝ }
     {
         let line = self.line;

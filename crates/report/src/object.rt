@@ -1,5 +1,6 @@
 // The lines of a dump, one for each object.
 ghost use Rattle.kernel.specs.Valid.{Valid};
+use crate::output::BLOCK;
 use crate::output::put;
 use crate::output::put_byte;
 use crate::output::put_named;
@@ -14,14 +15,14 @@ use tasks::task::Wait;
 pub const LF: u8 = 10;
 
 // `  KIND NUMBER domain=D`
-fn put_head(out: &mut [u8; 4096], at: usize, kind: &[u8], number: usize, domain: i32) -> usize {
+fn put_head(out: &mut [u8; BLOCK], at: usize, kind: &[u8], number: usize, domain: i32) -> usize {
     let at = put_named(out, at, kind, number as u64);
     let at = put(out, at, b" domain=");
     put_signed(out, at, domain)
 }
 
 // A comma between two elements of a list.
-fn put_comma(out: &mut [u8; 4096], at: usize, k: usize) -> usize {
+fn put_comma(out: &mut [u8; BLOCK], at: usize, k: usize) -> usize {
     if 0 < k {
         return put_byte(out, at, b',');
     }
@@ -34,7 +35,7 @@ fn number_of(index: u8) -> u64 {
 }
 
 // What a task waits for.
-fn put_wait(out: &mut [u8; 4096], at: usize, wait: Wait) -> usize {
+fn put_wait(out: &mut [u8; BLOCK], at: usize, wait: Wait) -> usize {
     match wait {
         Wait::Ready => put(out, at, b" ready"),
         Wait::OnSem(object) => put_named(out, at, b" sem=", number_of(object)),
@@ -55,7 +56,7 @@ fn word_of(wait: Wait) -> u32 {
 }
 
 // One who waits; of a sender also the word that it brings.
-fn put_waiter(out: &mut [u8; 4096], at: usize, state: State, side: Side, task: usize) -> usize
+fn put_waiter(out: &mut [u8; BLOCK], at: usize, state: State, side: Side, task: usize) -> usize
     requires { ⌜ Valid state ⌝ }
 {
     let at = put_number(out, at, task as u64);
@@ -69,7 +70,7 @@ fn put_waiter(out: &mut [u8; 4096], at: usize, state: State, side: Side, task: u
 }
 
 // Those who wait at a place, first to last.
-fn put_waiters(out: &mut [u8; 4096], at: usize, state: State, side: Side, number: usize) -> usize
+fn put_waiters(out: &mut [u8; BLOCK], at: usize, state: State, side: Side, number: usize) -> usize
     requires { ⌜ Valid state ⌝ }
 {
     let mut end = at;
@@ -87,7 +88,7 @@ fn put_waiters(out: &mut [u8; 4096], at: usize, state: State, side: Side, number
 }
 
 // The words of a buffer, oldest first.
-fn put_words(out: &mut [u8; 4096], at: usize, state: State, number: usize, count: usize) -> usize
+fn put_words(out: &mut [u8; BLOCK], at: usize, state: State, number: usize, count: usize) -> usize
     requires { ⌜ Valid state ⌝ }
 {
     let mut end = at;
@@ -100,7 +101,7 @@ fn put_words(out: &mut [u8; 4096], at: usize, state: State, number: usize, count
     end
 }
 
-fn put_task(out: &mut [u8; 4096], at: usize, state: State, number: usize) -> usize
+fn put_task(out: &mut [u8; BLOCK], at: usize, state: State, number: usize) -> usize
     requires { ⌜ Valid state ⌝ }
 {
     let task = state.task(number);
@@ -109,7 +110,7 @@ fn put_task(out: &mut [u8; 4096], at: usize, state: State, number: usize) -> usi
     put_byte(out, at, LF)
 }
 
-fn put_semaphore(out: &mut [u8; 4096], at: usize, state: State, number: usize) -> usize
+fn put_semaphore(out: &mut [u8; BLOCK], at: usize, state: State, number: usize) -> usize
     requires { ⌜ Valid state ⌝ }
 {
     let semaphore = state.semaphore(number);
@@ -123,7 +124,7 @@ fn put_semaphore(out: &mut [u8; 4096], at: usize, state: State, number: usize) -
     put_byte(out, at, LF)
 }
 
-fn put_queue(out: &mut [u8; 4096], at: usize, state: State, number: usize) -> usize
+fn put_queue(out: &mut [u8; BLOCK], at: usize, state: State, number: usize) -> usize
     requires { ⌜ Valid state ⌝ }
 {
     let queue = state.queue(number);
@@ -136,7 +137,7 @@ fn put_queue(out: &mut [u8; 4096], at: usize, state: State, number: usize) -> us
     put_queue_waiters(out, at, state, number)
 }
 
-fn put_queue_waiters(out: &mut [u8; 4096], at: usize, state: State, number: usize) -> usize
+fn put_queue_waiters(out: &mut [u8; BLOCK], at: usize, state: State, number: usize) -> usize
     requires { ⌜ Valid state ⌝ }
 {
     let at = put(out, at, b" senders=");
@@ -146,7 +147,7 @@ fn put_queue_waiters(out: &mut [u8; 4096], at: usize, state: State, number: usiz
     put_byte(out, at, LF)
 }
 
-fn put_region(out: &mut [u8; 4096], at: usize, state: State, number: usize) -> usize
+fn put_region(out: &mut [u8; BLOCK], at: usize, state: State, number: usize) -> usize
     requires { ⌜ Valid state ⌝ }
 {
     let region = state.region(number);
@@ -179,7 +180,13 @@ pub fn count_of(state: State, kind: Kind) -> usize
     }
 }
 
-pub fn put_object(out: &mut [u8; 4096], at: usize, state: State, kind: Kind, number: usize) -> usize
+pub fn put_object(
+    out: &mut [u8; BLOCK],
+    at: usize,
+    state: State,
+    kind: Kind,
+    number: usize,
+) -> usize
     requires { ⌜ Valid state ⌝ }
 {
     match kind {
@@ -191,7 +198,7 @@ pub fn put_object(out: &mut [u8; 4096], at: usize, state: State, kind: Kind, num
 }
 
 // The first line of a dump.
-pub fn put_counts(out: &mut [u8; 4096], at: usize, state: State) -> usize
+pub fn put_counts(out: &mut [u8; BLOCK], at: usize, state: State) -> usize
     requires { ⌜ Valid state ⌝ }
 {
     let summary = state.summary();

@@ -2,20 +2,20 @@
 use text::sign::magnitude;
 
 // The longest line is that of a data queue with 64 words and 64 who wait: below 2,048 bytes. Who puts a line leaves room for one.
-pub const SIZE: usize = 4096;
+pub const BLOCK: usize = 4096;
 
 pub const LONGEST_LINE: usize = 2048;
 
 // Each of these puts something behind the `at` bytes of the block, and answers how many there are then.
-pub fn put_byte(out: &mut [u8; 4096], at: usize, byte: u8) -> usize {
-    if at < SIZE {
+pub fn put_byte(out: &mut [u8; BLOCK], at: usize, byte: u8) -> usize {
+    if at < BLOCK {
         out[at] = byte;
         return at + 1;
     }
     at
 }
 
-pub fn put(out: &mut [u8; 4096], at: usize, text: &[u8]) -> usize {
+pub fn put(out: &mut [u8; BLOCK], at: usize, text: &[u8]) -> usize {
     let mut end = at;
     let mut i = 0;
     while i < text.len() {
@@ -25,19 +25,19 @@ pub fn put(out: &mut [u8; 4096], at: usize, text: &[u8]) -> usize {
     end
 }
 
-pub fn put_number(out: &mut [u8; 4096], at: usize, number: u64) -> usize {
+pub fn put_number(out: &mut [u8; BLOCK], at: usize, number: u64) -> usize {
     let mut digits = [0u8; 20];
     let count = io::decimal(number, &mut digits);
     put(out, at, &digits[..count])
 }
 
 // A text and a number after it, as `count=3`.
-pub fn put_named(out: &mut [u8; 4096], at: usize, name: &[u8], number: u64) -> usize {
+pub fn put_named(out: &mut [u8; BLOCK], at: usize, name: &[u8], number: u64) -> usize {
     let end = put(out, at, name);
     put_number(out, end, number)
 }
 
-pub fn put_signed(out: &mut [u8; 4096], at: usize, number: i32) -> usize {
+pub fn put_signed(out: &mut [u8; BLOCK], at: usize, number: i32) -> usize {
     if number < 0 {
         let end = put_byte(out, at, b'-');
         return put_number(out, end, magnitude(number));

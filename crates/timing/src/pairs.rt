@@ -11,6 +11,9 @@ use std::num::wrapping_add_u32;
 
 const REGIONS: u32 = MAX_REGIONS as u32;
 
+// The size of the areas asked for, well within a region.
+const AREA: u32 = 16;
+
 // One more if a call answered E_OK.
 fn counted(good: u32, outcome: Outcome) -> u32 {
     match outcome {
@@ -68,7 +71,7 @@ pub extern "C" fn timing_verdict(count: u32) -> u32 {
     let mut i: u32 = 0;
     while i < count {
         let base = i % REGIONS * REGION_SIZE;
-        if s.prb_mem(1, base, 16, READ) == E_OK {
+        if s.prb_mem(1, base, AREA, READ) == E_OK {
             good = wrapping_add_u32(good, 1);
         }
         i += 1;

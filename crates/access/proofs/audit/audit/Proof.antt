@@ -6,12 +6,12 @@ use lib.IntN.{pos}
 use lib.Signed.{ltZ}
 use mir.Facts.{toZ-ofZ, fits-natAbs}
 use Rattle.access.proofs.Ordinals.{not-below-sign}
-use Rattle.access.proofs.Audits.{audit-below, audit-over, audit-within}
+use Rattle.access.proofs.Audits.{refused-below, audit-over, audit-within}
 use Rattle.access.proofs.audit.audit.Statement.{statement}
 use Rattle.access.proofs.audit.audit.Tie as tie
 
 returns : tie.Need-returns
-returns c = audit-below _ _ (rw (toZ-ofZ (c .before .fits .n)) at (c .if1 .taken))
+returns c = refused-below _ _ (rw (toZ-ofZ (c .before .fits .n)) at (c .if1 .taken))
 
 -- past the test of the sign, of n itself
 signed : (c : tie.Else1) → ltZ (c .before .args .n) (pos 0) ≡ false
