@@ -24,9 +24,13 @@ const CODES: [Er; 9] = [WAITING, E_OK, E_RSFN, E_ID, E_CTX, E_OACV, E_NOEXS, E_Q
 const NAMES: [&str; 9] = ["waiting", "E_OK", "E_RSFN", "E_ID", "E_CTX", "E_OACV", "E_NOEXS", "E_QOVR", "E_TMOUT"];
 
 /// Marsaglia's xorshift: quick, and the same lists on every machine.
-struct Random(u64);
+pub struct Random(u64);
 
 impl Random {
+    pub fn new(seed: u64) -> Random {
+        Random(seed)
+    }
+
     fn next(&mut self) -> u32 {
         self.0 ^= self.0 << 13;
         self.0 ^= self.0 >> 7;
@@ -34,19 +38,19 @@ impl Random {
         (self.0 >> 32) as u32
     }
 
-    fn below(&mut self, limit: usize) -> usize {
+    pub fn below(&mut self, limit: usize) -> usize {
         self.next() as usize % limit
     }
 
-    fn one_in(&mut self, count: usize) -> bool {
+    pub fn one_in(&mut self, count: usize) -> bool {
         self.below(count) == 0
     }
 
-    fn pick<T: Copy>(&mut self, from: &[T]) -> T {
+    pub fn pick<T: Copy>(&mut self, from: &[T]) -> T {
         from[self.below(from.len())]
     }
 
-    fn mostly<T: Copy>(&mut self, good: T, odds: usize, wrong: &[T]) -> T {
+    pub fn mostly<T: Copy>(&mut self, good: T, odds: usize, wrong: &[T]) -> T {
         if self.one_in(odds) {
             self.pick(wrong)
         } else {

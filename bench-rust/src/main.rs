@@ -7,6 +7,7 @@ mod plain;
 mod plain_runs;
 #[cfg(test)]
 mod plain_tests;
+mod replayed;
 mod stack;
 
 use std::hint::black_box;
@@ -95,9 +96,10 @@ fn main() {
     match arguments.iter().map(String::as_str).collect::<Vec<_>>()[..] {
         [] => [compare::compare, times, stack::stacks].iter().for_each(|part| part()),
         ["compare"] => compare::compare(),
+        ["replay"] => replayed::compare(),
         ["times"] => times(),
         ["stack"] => stack::stacks(),
         ["stack-probe", name, size] => stack::probe(name, size),
-        _ => panic!("usage: bench-rust [compare | times | stack]"),
+        _ => panic!("usage: bench-rust [compare | replay | times | stack]"),
     }
 }

@@ -1,0 +1,211 @@
+//! Random tables, calls and verdicts as commands of the program `replay`; every line of its output must be what the ordinary
+//! kernel says.
+
+use crate::compare::Random;
+use crate::plain::*;
+use std::collections::BTreeMap;
+use std::io::Write;
+use std::process::{Command, Stdio};
+
+const SEED: u64 = 88_172_645_463_325_252;
+const SCRIPTS: u32 = 300;
+const PROGRAM: &str = "../target/bin/replay";
+
+const ENDS: [i32; 9] = [i32::MIN, -3, -2, -1, 0, 17, 33, 65, i32::MAX];
+
+/// Commands, and the lines that `replay` is to write for them.
+#[derive(Default)]
+struct Script {
+    commands: String,
+    lines: Vec<String>,
+}
+
+impl Script {
+    fn add(&mut self, command: String, answer: String) {
+        self.lines.push(format!("{command} -> {answer}"));
+        self.commands.push_str(&command);
+        self.commands.push('\n');
+    }
+}
+
+fn name(code: Er) -> &'static str {
+    match code {
+        E_OK => "E_OK",
+        E_RSATR => "E_RSATR",
+        E_PAR => "E_PAR",
+        E_ID => "E_ID",
+        E_CTX => "E_CTX",
+        E_MACV => "E_MACV",
+        E_OACV => "E_OACV",
+        E_NOMEM => "E_NOMEM",
+        E_NOID => "E_NOID",
+        E_OBJ => "E_OBJ",
+        E_NOEXS => "E_NOEXS",
+        E_QOVR => "E_QOVR",
+        E_TMOUT => "E_TMOUT",
+        _ => panic!("{code} is no code"),
+    }
+}
+
+fn code(checked: Check) -> String {
+    name(checked.err().unwrap_or(E_OK)).to_string()
+}
+
+fn call(answer: Result<Done, Er>) -> String {
+    let (outcome, word, released) = match answer {
+        Err(code) => (name(code), 0, None),
+        Ok(done) => (if done.waiting { "waiting" } else { "E_OK" }, done.word, done.released),
+    };
+    let (task, handed) = released.map_or((0, 0), |released| (released.task, released.word));
+    format!("{outcome} word={word} released={task}:{handed}")
+}
+
+fn patterns(vector: Vector, between: &str) -> String {
+    [vector.normal1, vector.normal2, vector.management, vector.reference].map(|p| p.to_string()).join(between)
+}
+
+fn refer(answer: Result<Referred, Er>, first: &str, second: Option<&str>) -> String {
+    let code = name(*answer.as_ref().err().unwrap_or(&E_OK));
+    let (waiter, receiver, count, vector) = match answer {
+        Err(_) => (0, 0, 0, Vector::new(0, 0, 0, 0)),
+        Ok(r) => (r.first_waiter, r.first_receiver, r.count, r.vector),
+    };
+    let receiver = second.map_or(String::new(), |second| format!(" {second}={receiver}"));
+    format!("{code} {first}={waiter}{receiver} count={count} vector={}", patterns(vector, ","))
+}
+
+fn random_vector(random: &mut Random) -> Vector {
+    let mut pattern = || random.pick(&[0, 1, 2, 3, 3, 3, u32::MAX, 0x8000_0000]);
+    Vector::new(pattern(), pattern(), pattern(), pattern())
+}
+
+/// An entry of any kind; regions for the most part behind the last one, whose end `top` is.
+fn entry(random: &mut Random, kernel: &mut Kernel, script: &mut Script, top: &mut u32) {
+    let good = random.pick(&[TDOM_KERNEL, -2, 1, 2]);
+    let domain = random.mostly(good, 9, &ENDS);
+    let atr = random.mostly(0, 10, &[1, 2, 4, 5, 8, u32::MAX]);
+    let vector = (!random.one_in(3)).then(|| random_vector(random));
+    let given = vector.map_or(String::new(), |vector| format!(" {}", patterns(vector, " ")));
+    match random.below(4) {
+        0 => script.add(format!("task {domain}"), code(kernel.add_task(domain))),
+        1 => {
+            let (start, max) = (random.pick(&[0, 0, 1, 2, 65_535]), random.pick(&[0, 1, 2, 2, 65_535, 65_536]));
+            let answer = code(kernel.add_semaphore(domain, atr, start, max, vector));
+            script.add(format!("sem {domain} {atr} {start} {max}{given}"), answer);
+        }
+        2 => {
+            let capacity = random.pick(&[0, 0, 1, 2, 64, 64, 64, 64, 65]);
+            let answer = code(kernel.add_queue(domain, atr, capacity, vector));
+            script.add(format!("dtq {domain} {atr} {capacity}{given}"), answer);
+        }
+        _ => {
+            let base = random.mostly(*top, 6, &[0, 0x1000, 0xFFFF_F000, u32::MAX]);
+            let size = random.mostly(0x1000, 3, &[0, 1, 0x800, 0x1001, u32::MAX]);
+            let answer = code(kernel.add_region(domain, atr, base, size, vector));
+            *top = base.saturating_add(size).max(*top);
+            script.add(format!("mem {domain} {atr} {base} {size}{given}"), answer);
+        }
+    }
+}
+
+fn semaphore_call(random: &mut Random, kernel: &mut Kernel, script: &mut Script, task: i32, id: i32) {
+    match random.below(6) {
+        0 | 1 => script.add(format!("sig_sem {task} {id}"), call(kernel.sig_sem(task, id))),
+        2 => script.add(format!("pol_sem {task} {id}"), call(kernel.pol_sem(task, id))),
+        3 => script.add(format!("wai_sem {task} {id}"), call(kernel.wai_sem(task, id))),
+        4 => script.add(format!("ref_sem {task} {id}"), refer(kernel.ref_sem(task, id), "waiter", None)),
+        _ => {
+            let vector = random_vector(random);
+            let answer = call(kernel.sac_sem(task, id, vector));
+            script.add(format!("sac_sem {task} {id} {}", patterns(vector, " ")), answer);
+        }
+    }
+}
+
+fn queue_call(random: &mut Random, kernel: &mut Kernel, script: &mut Script, task: i32, id: i32) {
+    let word = random.pick(&[0, 1, 700, u32::MAX]);
+    match random.below(7) {
+        0 | 1 => script.add(format!("psnd_dtq {task} {id} {word}"), call(kernel.psnd_dtq(task, id, word))),
+        2 => script.add(format!("snd_dtq {task} {id} {word}"), call(kernel.snd_dtq(task, id, word))),
+        3 => script.add(format!("prcv_dtq {task} {id}"), call(kernel.prcv_dtq(task, id))),
+        4 => script.add(format!("rcv_dtq {task} {id}"), call(kernel.rcv_dtq(task, id))),
+        5 => script.add(format!("ref_dtq {task} {id}"), refer(kernel.ref_dtq(task, id), "sender", Some("receiver"))),
+        _ => {
+            let vector = random_vector(random);
+            let answer = call(kernel.sac_dtq(task, id, vector));
+            script.add(format!("sac_dtq {task} {id} {}", patterns(vector, " ")), answer);
+        }
+    }
+}
+
+fn verdict(random: &mut Random, kernel: &mut Kernel, script: &mut Script, top: u32) {
+    let good = random.pick(&[TDOM_KERNEL, 1, 2]);
+    let domain = random.mostly(good, 10, &ENDS);
+    let inside = random.below(top.max(1) as usize) as u32;
+    let base = random.mostly(inside, 6, &[0, 0xFFFF_F000, u32::MAX]);
+    let size = random.pick(&[0, 1, 1, 2, 16, 0x1000, u32::MAX]);
+    let wish = random.pick(&[0, 1, 2, 2, 3, 4, 6, 7, 8, u32::MAX]);
+    script.add(format!("prb_mem {domain} {base} {size} {wish}"), code(kernel.prb_mem(domain, base, size, wish)));
+}
+
+/// A table, mostly closed, then calls and verdicts.
+fn random_script(random: &mut Random) -> Script {
+    let (mut script, mut kernel, mut top) = (Script::default(), Kernel::EMPTY, 0);
+    let n = random.mostly(2, 6, &ENDS);
+    script.add(format!("fresh {n}"), code(kernel.fresh(n)));
+    for domain in [1, 2, TDOM_KERNEL, 1, 1, 2] {
+        script.add(format!("task {domain}"), code(kernel.add_task(domain)));
+    }
+    for _ in 0..random.pick(&[8, 20, 90]) {
+        entry(random, &mut kernel, &mut script, &mut top);
+    }
+    for _ in 0..random.pick(&[0, 1, 1, 1, 1, 1, 2]) {
+        script.add("close".to_string(), code(kernel.close()));
+    }
+    for _ in 0..400 {
+        let good = random.below(8) as i32 + 1;
+        let task = random.mostly(good, 25, &ENDS);
+        let good = random.pick(&[1, 1, 1, 2, 2, 3, 4]);
+        let id = random.mostly(good, 25, &ENDS);
+        match random.below(12) {
+            0 => verdict(random, &mut kernel, &mut script, top),
+            1 => entry(random, &mut kernel, &mut script, &mut top),
+            2..=6 => semaphore_call(random, &mut kernel, &mut script, task, id),
+            _ => queue_call(random, &mut kernel, &mut script, task, id),
+        }
+    }
+    script
+}
+
+/// What `replay` writes for commands.
+fn replay(commands: &str) -> String {
+    let mut child = Command::new(PROGRAM);
+    let mut child = child.stdin(Stdio::piped()).stdout(Stdio::piped()).spawn().expect("run `./replay` once first");
+    let mut input = child.stdin.take().expect("its input");
+    let commands = commands.to_string();
+    // In a thread of its own, since both pipes can be full at once.
+    let writer = std::thread::spawn(move || input.write_all(commands.as_bytes()).expect("written"));
+    let output = child.wait_with_output().expect("its end");
+    writer.join().expect("its end");
+    String::from_utf8(output.stdout).expect("text")
+}
+
+pub fn compare() {
+    let (mut random, mut lines, mut codes) = (Random::new(SEED), 0, BTreeMap::new());
+    for number in 0..SCRIPTS {
+        let script = random_script(&mut random);
+        let output = replay(&script.commands);
+        for (ours, plain) in output.lines().zip(&script.lines) {
+            assert_eq!(ours, plain, "script {number}");
+        }
+        assert_eq!(output.lines().count(), script.lines.len(), "script {number}: how many lines");
+        lines += script.lines.len();
+        for outcome in
+            script.lines.iter().filter_map(|line| line.split_whitespace().skip_while(|&word| word != "->").nth(1))
+        {
+            *codes.entry(outcome.to_string()).or_insert(0) += 1;
+        }
+    }
+    println!("\nTables, calls and verdicts, seed {SEED}: {lines} lines of `replay` in {SCRIPTS} scripts alike.");
+    println!("What came back: {codes:?}");
+}
