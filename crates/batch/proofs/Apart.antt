@@ -9,7 +9,7 @@ use Rattle.access.specs.Patterns.{pick}
 use Rattle.itron.specs.Codes.{Code, ok, waiting, error, eRsatr, ePar, eId, eCtx, eMacv, eOacv, eNomem, eNoid, eObj, eNoexs, eQovr, eTmout}
 use Rattle.model.specs.Answers.{Answer, outcomeOf, replyOf}
 use Rattle.model.proofs.Lists.{ne-of}
-use Rattle.batch.specs.Encoding.{outcomeWord, wordsOf, noCall}
+use Rattle.batch.specs.Encoding.{outcomeWord, encoded, noCall}
 
 -- the code that a word stands for; 2^32 less a refusal's size
 abbrev codeFrom : ℕ → Code
@@ -68,9 +68,9 @@ pub record Alike (a b : Answer) : Type 0 where
   pub reply : replyOf a ≡ replyOf b
   pub info : a .info ≡ b .info
 
-pub told-apart : (a b : Answer) → wordsOf a ≡ wordsOf b → Alike a b
+pub told-apart : (a b : Answer) → encoded a ≡ encoded b → Alike a b
 told-apart a b e =
-    let w : (k : ℕ) → getD (wordsOf a) k 0 ≡ getD (wordsOf b) k 0 = λ k. ap (λ (l : List ℕ). getD l k 0) e in
+    let w : (k : ℕ) → getD (encoded a) k 0 ≡ getD (encoded b) k 0 = λ k. ap (λ (l : List ℕ). getD l k 0) e in
     let c : a .code ≡ b .code = sym (code-from (a .code)) ∙ ap codeFrom (w 0) ∙ code-from (b .code) in
     record {
       code = c;
@@ -78,5 +78,5 @@ told-apart a b e =
       info = λ i. record { waiter = w 4 i; receiver = w 5 i; count = w 6 i; vector = record { normal1 = w 7 i; normal2 = w 8 i; management = w 9 i; reference = w 10 i } };
     }
 
-pub no-answer : (a : Answer) → wordsOf a ≡ noCall → ⊥
+pub no-answer : (a : Answer) → encoded a ≡ noCall → ⊥
 no-answer a e = ne-of (outcomeWord (outcomeOf (a .code))) (getD noCall 0 0) (no-code (a .code)) (ap (λ (l : List ℕ). getD l 0 0) e)

@@ -28,8 +28,8 @@ use Rattle.kernel.specs.Promises.{Does, TellsSemaphore, TellsQueue}
 use Rattle.model.proofs.Refers.{refer-state, refer-reply, refer-receiver}
 use Rattle.batch.specs.declared.request.Request.{Request}
 use Rattle.batch.specs.declared.answer.Made.{Made}
-use Rattle.batch.specs.Encoding.{outcomeWord, meanings, nth, itemOf, wordsOf}
-use Rattle.batch.specs.Made.{madeOf, toldOfSemaphore, toldOfQueue, Performs}
+use Rattle.batch.specs.Encoding.{outcomeWord, meanings, nth, itemOf, encoded}
+use Rattle.batch.specs.Made.{answerMade, semaphoreMade, queueMade, Performs}
 
 -- ---- the numbers of an answer fit a word
 module _ {s : State} (v : Valid s) where
@@ -79,11 +79,11 @@ abbrev words-with : Out → Info → List ℕ
 words-with o i =
     outcomeWord (outcomeOf (o .answer .code)) ∷ o .answer .word ∷ releasedOf (o .answer .released) .task ∷ releasedOf (o .answer .released) .word ∷ i .waiter ∷ i .receiver ∷ i .count ∷ i .vector .normal1 ∷ i .vector .normal2 ∷ i .vector .management ∷ i .vector .reference ∷ []
 
-pub does : {s : State} {c : Call} {a : Answer} {r : Made} {item : Option Call} → some c ≡ item → isRefer (c .op) ≡ false → Does s c a → r ≡ madeOf a → Performs s item r
+pub does : {s : State} {c : Call} {a : Answer} {r : Made} {item : Option Call} → some c ≡ item → isRefer (c .op) ≡ false → Does s c a → r ≡ answerMade a → Performs s item r
 does {s} {c} {a} {r} h n d e =
     let o = step (viewOf s) c in
     let i = info-law (viewOf s) c n in
-    let w : r .words ≡ wordsOf (o .answer) = ap (λ (x : Made). x .words) e ∙ ap (λ (x : Answer). madeOf x .words) (d .same) ∙ ap (words-with o) (sym i) in
+    let w : r .words ≡ encoded (o .answer) = ap (λ (x : Made). x .words) e ∙ ap (λ (x : Answer). answerMade x .words) (d .same) ∙ ap (words-with o) (sym i) in
     let t : r .state ≡ a .state = ap (λ (x : Made). x .state) e in
     subst (λ (x : Option Call). Performs s x r) h
     (record { answer = w; seen = ap viewOf t ∙ d .seen; valid = subst (λ (x : State). Valid x) (sym t) (d .valid) })
@@ -94,27 +94,27 @@ told-with p i =
     outcomeWord (p .outcome) ∷ p .word ∷ p .released .task ∷ p .released .word ∷ i .waiter ∷ i .receiver ∷ i .count ∷ i .vector .normal1 ∷ i .vector .normal2 ∷ i .vector .management ∷ i .vector .reference ∷ []
 
 told : {s : State} (k : Kind) (z id : ℤ) {r : Made} {t : State} {item : Option Call} → some (call z (refer k id)) ≡ item
-    → r .words ≡ wordsOf (step (viewOf s) (call z (refer k id)) .answer) → r .state ≡ t → t ≡ s → Valid t → Performs s item r
+    → r .words ≡ encoded (step (viewOf s) (call z (refer k id)) .answer) → r .state ≡ t → t ≡ s → Valid t → Performs s item r
 told {s} k z id {r} {t} h w e f v =
     subst (λ (x : Option Call). Performs s x r) h
     (record { answer = w; seen = ap viewOf (e ∙ f) ∙ sym (refer-state (viewOf s) z k id); valid = subst (λ (x : State). Valid x) (sym e) v })
 
 pub tells-semaphore : {s : State} {z id : ℤ} {a : SemaphoreReport} {r : Made} {item : Option Call} → some (call z (refer Semaphore id)) ≡ item
-    → TellsSemaphore s (call z (refer Semaphore id)) a → r ≡ toldOfSemaphore a → Performs s item r
+    → TellsSemaphore s (call z (refer Semaphore id)) a → r ≡ semaphoreMade a → Performs s item r
 tells-semaphore {s} {z} {id} {a} {r} h d e =
     let o = step (viewOf s) (call z (refer Semaphore id)) in
     let p = refer-reply (viewOf s) z Semaphore id in
     let q = refer-receiver (viewOf s) z id in
-    let w : r .words ≡ wordsOf (o .answer) =
-    ap (λ (x : Made). x .words) e ∙ ap (λ (x : SemaphoreReport). toldOfSemaphore x .words) (d .same)
+    let w : r .words ≡ encoded (o .answer) =
+    ap (λ (x : Made). x .words) e ∙ ap (λ (x : SemaphoreReport). semaphoreMade x .words) (d .same)
     ∙ (λ j. told-with (p j) (record { waiter = o .answer .info .waiter; receiver = q j; count = o .answer .info .count; vector = o .answer .info .vector })) in
     told Semaphore z id h w (ap (λ (x : Made). x .state) e) (d .kept) (d .valid)
 
 pub tells-queue : {s : State} {z id : ℤ} {a : QueueReport} {r : Made} {item : Option Call} → some (call z (refer Queue id)) ≡ item
-    → TellsQueue s (call z (refer Queue id)) a → r ≡ toldOfQueue a → Performs s item r
+    → TellsQueue s (call z (refer Queue id)) a → r ≡ queueMade a → Performs s item r
 tells-queue {s} {z} {id} {a} {r} h d e =
     let o = step (viewOf s) (call z (refer Queue id)) in
     let p = refer-reply (viewOf s) z Queue id in
-    let w : r .words ≡ wordsOf (o .answer) =
-    ap (λ (x : Made). x .words) e ∙ ap (λ (x : QueueReport). toldOfQueue x .words) (d .same) ∙ (λ j. told-with (p j) (o .answer .info)) in
+    let w : r .words ≡ encoded (o .answer) =
+    ap (λ (x : Made). x .words) e ∙ ap (λ (x : QueueReport). queueMade x .words) (d .same) ∙ (λ j. told-with (p j) (o .answer .info)) in
     told Queue z id h w (ap (λ (x : Made). x .state) e) (d .kept) (d .valid)

@@ -82,8 +82,8 @@ abbrev pub outcomeWord : Outcome → ℕ
 outcomeWord (Code z) = ofZ w32 z
 outcomeWord Waiting = 1
 
-abbrev pub wordsOf : Answer → List ℕ
-wordsOf a =
+abbrev pub encoded : Answer → List ℕ
+encoded a =
     outcomeWord (outcomeOf (a .code))
     ∷ a .word
     ∷ releasedOf (a .released) .task
@@ -110,7 +110,7 @@ abbrev pub answersIn : List (Option Call) → History → List ℕ
 answersIn [] h = []
 answersIn (none ∷ l) h = answersIn l h ++ noCall
 answersIn (some c ∷ l) [] = []
-answersIn (some c ∷ l) (e ∷ h) = answersIn l h ++ wordsOf (e .answer)
+answersIn (some c ∷ l) (e ∷ h) = answersIn l h ++ encoded (e .answer)
 
 -- ---- how many are answered: all that the slice holds (what is left behind the last eight words counts as one), as far as
 -- their answers have room

@@ -14,22 +14,22 @@ use Rattle.kernel.specs.declared.dtq.QueueReport.{QueueReport}
 use Rattle.kernel.specs.View.{viewOf}
 use Rattle.kernel.specs.Valid.{Valid}
 use Rattle.batch.specs.declared.answer.Made.{Made}
-use Rattle.batch.specs.Encoding.{outcomeWord, wordsOf, noCall}
+use Rattle.batch.specs.Encoding.{outcomeWord, encoded, noCall}
 
 -- the words of the answers that the operations give
-abbrev pub madeOf : Answer → Made
-madeOf a = record { words = outcomeWord (a .outcome) ∷ a .word ∷ a .released .task ∷ a .released .word ∷ 0 ∷ 0 ∷ 0 ∷ 0 ∷ 0 ∷ 0 ∷ 0 ∷ []; state = a .state }
+abbrev pub answerMade : Answer → Made
+answerMade a = record { words = outcomeWord (a .outcome) ∷ a .word ∷ a .released .task ∷ a .released .word ∷ 0 ∷ 0 ∷ 0 ∷ 0 ∷ 0 ∷ 0 ∷ 0 ∷ []; state = a .state }
 
-abbrev pub toldOfSemaphore : SemaphoreReport → Made
-toldOfSemaphore r = record { words = ofZ w32 (r .code) ∷ 0 ∷ 0 ∷ 0 ∷ r .waiter ∷ 0 ∷ r .count ∷ r .vector .normal1 ∷ r .vector .normal2 ∷ r .vector .management ∷ r .vector .reference ∷ []; state = r .state }
+abbrev pub semaphoreMade : SemaphoreReport → Made
+semaphoreMade r = record { words = ofZ w32 (r .code) ∷ 0 ∷ 0 ∷ 0 ∷ r .waiter ∷ 0 ∷ r .count ∷ r .vector .normal1 ∷ r .vector .normal2 ∷ r .vector .management ∷ r .vector .reference ∷ []; state = r .state }
 
-abbrev pub toldOfQueue : QueueReport → Made
-toldOfQueue r = record { words = ofZ w32 (r .code) ∷ 0 ∷ 0 ∷ 0 ∷ r .sender ∷ r .receiver ∷ r .count ∷ r .vector .normal1 ∷ r .vector .normal2 ∷ r .vector .management ∷ r .vector .reference ∷ []; state = r .state }
+abbrev pub queueMade : QueueReport → Made
+queueMade r = record { words = ofZ w32 (r .code) ∷ 0 ∷ 0 ∷ 0 ∷ r .sender ∷ r .receiver ∷ r .count ∷ r .vector .normal1 ∷ r .vector .normal2 ∷ r .vector .management ∷ r .vector .reference ∷ []; state = r .state }
 
 -- what an item answers in a state of the model, and the state after it
 abbrev pub answerTo : Model.State → Option Call → List ℕ
 answerTo m none = noCall
-answerTo m (some c) = wordsOf (step m c .answer)
+answerTo m (some c) = encoded (step m c .answer)
 
 abbrev pub next : Model.State → Option Call → Model.State
 next m none = m

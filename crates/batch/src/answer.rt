@@ -3,7 +3,7 @@ ghost use mathlib.Core.Path.{_≡_};
 ghost use Prim.Native.Nat.{_≤_};
 ghost use Rattle.itron.specs.Limits.{maxTasks, maxWords};
 ghost use Rattle.batch.specs.Encoding.{outcomeWord, noCall};
-ghost use Rattle.batch.specs.Made.{madeOf, toldOfSemaphore, toldOfQueue};
+ghost use Rattle.batch.specs.Made.{answerMade, semaphoreMade, queueMade};
 use crate::word::unsigned;
 use kernel::dtq::QueueReport;
 use kernel::sem::SemaphoreReport;
@@ -48,7 +48,7 @@ pub(crate) fn no_call() -> [u32; ANSWER_WORDS]
 // What a call answered that is no refer.
 pub(crate) fn answered(answer: Answer) -> Made
     requires { ⌜ answer .released .task ≤ maxTasks ⌝ }
-    ensures { λ r. ⌜ r ≡ madeOf answer ⌝ }
+    ensures { λ r. ⌜ r ≡ answerMade answer ⌝ }
 {
     let outcome = answer.outcome;
     let released = answer.released;
@@ -64,7 +64,7 @@ pub(crate) fn answered(answer: Answer) -> Made
 // What a refer to a semaphore answered.
 pub(crate) fn told_of_semaphore(report: SemaphoreReport) -> Made
     requires { ⌜ report .waiter ≤ maxTasks ⌝ }
-    ensures { λ r. ⌜ r ≡ toldOfSemaphore report ⌝ }
+    ensures { λ r. ⌜ r ≡ semaphoreMade report ⌝ }
 {
     let vector = report.vector;
     let state = report.state;
@@ -82,7 +82,7 @@ pub(crate) fn told_of_semaphore(report: SemaphoreReport) -> Made
 // What a refer to a data queue answered.
 pub(crate) fn told_of_queue(report: QueueReport) -> Made
     requires { ⌜ (report .sender ≤ maxTasks) × (report .receiver ≤ maxTasks) × (report .count ≤ maxWords) ⌝ }
-    ensures { λ r. ⌜ r ≡ toldOfQueue report ⌝ }
+    ensures { λ r. ⌜ r ≡ queueMade report ⌝ }
 {
     let vector = report.vector;
     let state = report.state;

@@ -34,7 +34,8 @@ use Rattle.kernel.specs.declared.state.State.{State}
 use Rattle.kernel.specs.View.{viewOf}
 use Rattle.kernel.specs.Form.{stateOf}
 use Rattle.kernel.specs.Valid.{Valid}
-use Rattle.kernel.specs.Answers.{entered, enteredOf, withSemaphores, withQueues}
+use Rattle.kernel.specs.Answers.{entered, enteredOf}
+use Rattle.kernel.specs.Inside.{withSemaphores, withQueues}
 
 -- ---- results of checks
 not-ok : (e : Err) → numberOf e ≡ okNumber → ⊥

@@ -43,7 +43,8 @@ use Rattle.kernel.specs.View.{viewOf}
 use Rattle.kernel.specs.Valid.{Valid}
 use Rattle.kernel.specs.Promises.{Does}
 use Rattle.kernel.proofs.Back.{promise}
-use Rattle.kernel.specs.Answers.{answered, answerOf, semaphoreReportOf, queueReportOf, withSemaphores, withQueues, checked}
+use Rattle.kernel.specs.Answers.{answered, answerOf, semaphoreReportOf, queueReportOf}
+use Rattle.kernel.specs.Inside.{withSemaphores, withQueues, checked}
 
 -- what the checks give for a call
 abbrev pub checkOf : State → ℤ → Op → Check

@@ -1,31 +1,15 @@
--- The model's answers as the program gives them, and what private functions give. Definitions only.
-use Prim.Native.Nat.{ℕ}
-use mathlib.Core.Bool.{Bool, not, _&&_}
-use mathlib.Core.Option.{Option, none, some}
-use lib.Dec.{ltb}
+-- The model's answers as the program gives them. Definitions only.
 use lib.IntN.{ℤ}
 use lib.ListN.{length}
-use Rattle.access.specs.Patterns.{pick}
-use Rattle.arrays.specs.Pad.{index}
-use Rattle.itron.specs.Codes.{Err, eCtx, eNoid, eId, numberOf}
 use Rattle.model.specs.State as Model
-use Rattle.model.specs.State.{domainAt}
-use Rattle.model.specs.Answers.{Out, replyOf, codeOf, refuseIf}
+use Rattle.model.specs.Answers.{Out, replyOf, codeOf}
 use Rattle.model.specs.declared.Reply.{Reply}
-use Rattle.model.specs.Calls.{ready}
-use Rattle.tasks.specs.declared.state.Tasks.{Tasks}
-use Rattle.tasks.specs.declared.wait.Caller.{Caller}
-use Rattle.tasks.specs.declared.wait.Caller.the-variants as Caller
-use Rattle.semaphore.specs.declared.state.Semaphores.{Semaphores}
-use Rattle.dataqueue.specs.declared.state.Queues.{Queues}
 use Rattle.kernel.specs.declared.state.State.{State}
 use Rattle.kernel.specs.declared.state.Answer.{Answer}
 use Rattle.kernel.specs.declared.state.Entered.{Entered}
 use Rattle.kernel.specs.declared.sem.SemaphoreReport.{SemaphoreReport}
 use Rattle.kernel.specs.declared.dtq.QueueReport.{QueueReport}
 use Rattle.kernel.specs.declared.query.Summary.{Summary}
-use Rattle.kernel.specs.declared.check.Check.{Check}
-use Rattle.kernel.specs.declared.check.Check.the-variants.{Refused, Admitted}
 use Rattle.kernel.specs.Form.{stateOf}
 
 -- ---- answers: code, word and released task by their definitions in the model, and the complete state
@@ -46,27 +30,6 @@ semaphoreReportOf o = record { code = codeOf (o .answer .code); waiter = o .answ
 
 abbrev pub queueReportOf : Out → QueueReport
 queueReportOf o = record { code = codeOf (o .answer .code); sender = o .answer .info .waiter; receiver = o .answer .info .receiver; count = o .answer .info .count; vector = o .answer .info .vector; state = stateOf (o .state) }
-
--- ---- the state with the parts that a call changes
-abbrev pub withSemaphores : State → Tasks → Semaphores → State
-withSemaphores s t x = record { domains = s .domains; closed = s .closed; tasks = t; semaphores = x; queues = s .queues; regions = s .regions }
-
-abbrev pub withQueues : State → Tasks → Queues → State
-withQueues s t x = record { domains = s .domains; closed = s .closed; tasks = t; semaphores = s .semaphores; queues = x; regions = s .regions }
-
--- ---- the checks
--- a registered ready task of a closed table
-abbrev pub callerIn : Model.State → ℕ → Caller
-callerIn m t = pick (m .fixed .closed && ready m t) (Caller.Ready (index t) (domainAt m t)) Caller.Nobody
-
--- a refusal's code, or the indexes of the task t and of the object n
-abbrev pub checked : Option Err → ℕ → ℕ → Check
-checked (some e) t n = Refused (numberOf e)
-checked none t n = Admitted (index t) (index n)
-
--- steps 1 to 3 of an entry's checks
-abbrev pub opening : Bool → ℕ → ℕ → Bool → Option Err
-opening closed used most owned = refuseIf closed eCtx (refuseIf (not (ltb used most)) eNoid (refuseIf (not owned) eId none))
 
 -- ---- how large a table is
 abbrev pub summaryOf : Model.State → Summary

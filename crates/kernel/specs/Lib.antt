@@ -3,3 +3,4 @@ pub mod Form
 pub mod Valid
 pub mod Answers
 pub mod Promises
+pub mod Inside

@@ -5,7 +5,7 @@ ghost use Rattle.model.specs.Calls as Model;
 ghost use Rattle.model.specs.Calls.{no, vectorAt};
 ghost use Rattle.kernel.specs.View.{viewOf};
 ghost use Rattle.kernel.specs.Valid.{Valid};
-ghost use Rattle.kernel.specs.Answers.{callerIn, checked};
+ghost use Rattle.kernel.specs.Inside.{callerIn, checked};
 use crate::state::State;
 use access::domain::ordinal;
 use access::pattern::admits;

@@ -1,6 +1,7 @@
 // The state, and the answers that give it back.
 ghost use mathlib.Core.Path.{_≡_};
-ghost use Rattle.kernel.specs.Answers.{answered, entered, withSemaphores, withQueues};
+ghost use Rattle.kernel.specs.Answers.{answered, entered};
+ghost use Rattle.kernel.specs.Inside.{withSemaphores, withQueues};
 ghost use Rattle.model.specs.Answers.{plain};
 use dataqueue::call::Effect as QueueEffect;
 use dataqueue::state::Queues;

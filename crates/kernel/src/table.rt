@@ -6,7 +6,7 @@ ghost use Rattle.model.specs.Table.{emptyState, fresh, owns, ownsTask, checkEnt
 ghost use Rattle.kernel.specs.View.{viewOf};
 ghost use Rattle.kernel.specs.Form.{stateOf};
 ghost use Rattle.kernel.specs.Valid.{Valid};
-ghost use Rattle.kernel.specs.Answers.{opening};
+ghost use Rattle.kernel.specs.Inside.{opening};
 ghost use Rattle.kernel.specs.Promises.{Begins, Enters};
 use crate::state::Entered;
 use crate::state::State;

@@ -15,7 +15,7 @@ use Rattle.tasks.specs.declared.wait.Caller.the-variants as Caller
 use Rattle.model.proofs.Ordinals.{outside, Within, within}
 use Rattle.kernel.specs.declared.check.Check.the-variants.{Admitted}
 use Rattle.kernel.specs.View.{viewOf}
-use Rattle.kernel.specs.Answers.{callerIn}
+use Rattle.kernel.specs.Inside.{callerIn}
 use Rattle.kernel.proofs.Checks.{nobody, check-ctx, check-id, check-noexs, check-oacv, check-admits}
 use Rattle.kernel.proofs.state.State.check.Statement.{statement}
 use Rattle.kernel.proofs.state.State.check.Tie as tie

@@ -11,7 +11,7 @@ use Rattle.model.specs.Answers.{resultOf}
 use Rattle.model.specs.Table.{owns}
 use Rattle.semaphore.specs.Entries.{entryCheck}
 use Rattle.kernel.specs.View.{viewOf}
-use Rattle.kernel.specs.Answers.{opening}
+use Rattle.kernel.specs.Inside.{opening}
 use Rattle.kernel.proofs.Back.{sems-held}
 use Rattle.kernel.proofs.Building.{opening-refuses, opening-passes}
 use Rattle.kernel.proofs.state.State.check_semaphore.Statement.{statement}

@@ -6,7 +6,7 @@ use mir.Val.{toZ, ofZ}
 use mir.Facts.{toZ-ofZ}
 use Rattle.itron.specs.Limits.{maxTasks}
 use Rattle.model.specs.Answers.{resultOf}
-use Rattle.kernel.specs.Answers.{opening}
+use Rattle.kernel.specs.Inside.{opening}
 use Rattle.kernel.proofs.Back.{tasks-held}
 use Rattle.kernel.proofs.state.State.check_task.Statement.{statement}
 use Rattle.kernel.proofs.state.State.check_task.Tie as tie
