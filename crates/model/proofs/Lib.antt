@@ -16,6 +16,6 @@ pub mod Refers
 pub mod Numbers
 pub mod Replies
 pub mod Places
-pub mod Teeth
+pub mod Refuted
 pub mod Owners
 pub mod Ordinals

@@ -1,4 +1,4 @@
--- Demand 3 has teeth: for each thing that it is to shut out, a history of answers that it refutes. Closed computations; assumes nothing.
+-- What demand 3 shuts out: for each such thing a history of answers that it refutes. Closed computations; assumes nothing.
 use mathlib.Core.Path.{_≡_, ap}
 use mathlib.Core.Bool.{true}
 use mathlib.Core.List.{List, [], _∷_, map}
