@@ -2,7 +2,7 @@
 ghost use mathlib.Core.Path.{_≡_};
 ghost use Prim.Native.Nat.{_≤_};
 ghost use lib.ListN.{drop};
-ghost use Rattle.command.specs.Lines.{pushed as pushedTo, gatheredOf, withoutCr};
+ghost use Rattle.command.specs.Lines.{lineSize, pushed as pushedTo, gatheredOf, withoutCr};
 
 // One more than the longest line that is read: a full array is a line that is too long.
 pub const SIZE: usize = 256;
@@ -12,7 +12,7 @@ const LF: u8 = 10;
 const CR: u8 = 13;
 
 pub struct Line {
-    pub bytes: [u8; 256],
+    pub bytes: [u8; SIZE],
     pub count: usize,
 }
 
@@ -26,7 +26,7 @@ pub struct Gathered {
 impl Line {
     pub fn empty() -> Line {
         Line {
-            bytes: [0; 256],
+            bytes: [0; SIZE],
             count: 0,
         }
     }
@@ -46,8 +46,8 @@ impl Line {
 
     // The line without the CR that stands before its LF.
     pub fn without_cr(mut self) -> Line
-        requires { ⌜ self .count ≤ 256 ⌝ }
-        ensures { λ r. ⌜ (r ≡ withoutCr self) × (r .count ≤ 256) ⌝ }
+        requires { ⌜ self .count ≤ lineSize ⌝ }
+        ensures { λ r. ⌜ (r ≡ withoutCr self) × (r .count ≤ lineSize) ⌝ }
     {
         let count = self.count;
         if count == 0 {

@@ -38,7 +38,7 @@ pub enum Unsigned {
     Is(u32),
 }
 
-// These two spare each caller the proof that a small type's value fits a larger one.
+// Spares each caller the proof that a byte fits 64 bits.
 fn wide(byte: u8) -> u64
     ensures { λ r. ⌜ r ≡ byte ⌝ }
 {

@@ -17,7 +17,7 @@ pub struct Numbers {
     pub good: bool,
     pub first: i32,
     pub second: i32,
-    pub rest: [u32; 7],
+    pub rest: [u32; MOST],
 }
 
 impl Numbers {
@@ -26,7 +26,7 @@ impl Numbers {
             good: true,
             first: 0,
             second: 0,
-            rest: [0; 7],
+            rest: [0; MOST],
         }
     }
 

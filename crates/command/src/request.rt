@@ -1,5 +1,6 @@
 // A whole line: its command and its echo.
 ghost use Prim.Native.Nat.{_≤_};
+ghost use Rattle.command.specs.Lines.{lineSize};
 use crate::line::Line;
 use crate::line::SIZE;
 use crate::parse::Command;
@@ -14,7 +15,7 @@ pub struct Request {
 
 // What a line asks, given whether an LF ended it: a CR goes only before an LF.
 pub fn requested(line: Line, ended: bool) -> Request
-    ensures { λ r. ⌜ r .echo .count ≤ 256 ⌝ }
+    ensures { λ r. ⌜ r .echo .count ≤ lineSize ⌝ }
 {
     if SIZE <= line.count {
         return Request {
@@ -29,8 +30,8 @@ pub fn requested(line: Line, ended: bool) -> Request
 }
 
 fn of_text(echo: Text) -> Request
-    requires { ⌜ echo .count ≤ 256 ⌝ }
-    ensures { λ r. ⌜ r .echo .count ≤ 256 ⌝ }
+    requires { ⌜ echo .count ≤ lineSize ⌝ }
+    ensures { λ r. ⌜ r .echo .count ≤ lineSize ⌝ }
 {
     let bytes = echo.bytes;
     let count = echo.count;

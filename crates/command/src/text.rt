@@ -1,6 +1,7 @@
 // A line's text: no comment, no blanks at its ends, and one space between two words.
 ghost use mathlib.Core.Path.{_≡_};
 ghost use Prim.Native.Nat.{_≤_};
+ghost use Rattle.command.specs.Lines.{lineSize};
 ghost use Rattle.command.specs.Texts.{isBlank, emptyText, put as putTo, with as withByte, textOf};
 use crate::line::Line;
 use crate::line::SIZE;
@@ -13,7 +14,7 @@ const HASH: u8 = 35;
 
 // `gap` says that blanks stand after the text so far.
 pub struct Text {
-    pub bytes: [u8; 256],
+    pub bytes: [u8; SIZE],
     pub count: usize,
     pub gap: bool,
 }
@@ -26,18 +27,18 @@ fn is_blank(byte: u8) -> bool
 
 impl Text {
     fn empty() -> Text
-        ensures { λ r. ⌜ (r ≡ emptyText) × (r .count ≤ 256) ⌝ }
+        ensures { λ r. ⌜ (r ≡ emptyText) × (r .count ≤ lineSize) ⌝ }
     {
         Text {
-            bytes: [0; 256],
+            bytes: [0; SIZE],
             count: 0,
             gap: false,
         }
     }
 
     fn put(mut self, byte: u8) -> Text
-        requires { ⌜ self .count ≤ 256 ⌝ }
-        ensures { λ r. ⌜ (r ≡ putTo self byte) × (r .count ≤ 256) ⌝ }
+        requires { ⌜ self .count ≤ lineSize ⌝ }
+        ensures { λ r. ⌜ (r ≡ putTo self byte) × (r .count ≤ lineSize) ⌝ }
     {
         let at = self.count;
         if SIZE <= at {
@@ -51,8 +52,8 @@ impl Text {
 
     // The text with the line's next byte.
     fn with(mut self, byte: u8) -> Text
-        requires { ⌜ self .count ≤ 256 ⌝ }
-        ensures { λ r. ⌜ (r ≡ withByte self byte) × (r .count ≤ 256) ⌝ }
+        requires { ⌜ self .count ≤ lineSize ⌝ }
+        ensures { λ r. ⌜ (r ≡ withByte self byte) × (r .count ≤ lineSize) ⌝ }
     {
         if is_blank(byte) {
             self.gap = true;
@@ -69,8 +70,8 @@ impl Text {
 
     // The text of a line.
     pub fn of(line: Line) -> Text
-        requires { ⌜ line .count ≤ 256 ⌝ }
-        ensures { λ r. ⌜ (r ≡ textOf line) × (r .count ≤ 256) ⌝ }
+        requires { ⌜ line .count ≤ lineSize ⌝ }
+        ensures { λ r. ⌜ (r ≡ textOf line) × (r .count ≤ lineSize) ⌝ }
     {
         let mut text = Text::empty();
         let mut i = 0;
@@ -87,7 +88,7 @@ impl Text {
 
     // What stands for a line that is too long.
     pub fn long() -> Text
-        ensures { λ r. ⌜ r .count ≤ 256 ⌝ }
+        ensures { λ r. ⌜ r .count ≤ lineSize ⌝ }
     {
         Text::empty()
             .put(b'(')

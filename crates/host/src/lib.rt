@@ -1,5 +1,4 @@
 // For a host that links the core: a list of calls, made on the bench table of document 01.
-ghost use Prim.Native.Nat.{ℕ};
 ghost use Rattle.host.specs.Hosted.{Hosted};
 use batch::run::run;
 use bench_table::closed;

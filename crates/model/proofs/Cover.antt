@@ -34,10 +34,6 @@ not-no : (b : Bool) → not b ≡ false → b ≡ true
 not-no true h = refl
 not-no false h = sym h
 
-not-yes : (b : Bool) → not b ≡ true → b ≡ false
-not-yes true h = sym h
-not-yes false h = refl
-
 pub passed : (s : State) (t : ℕ) (op : Op) (n : ℕ) (k : Kind) → check s t (operationOf op) n k ≡ none → Passed s t op n k
 unfolding check
 passed s t op n k h =

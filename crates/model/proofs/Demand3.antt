@@ -23,10 +23,6 @@ use Rattle.model.proofs.Steps.{queue-law, wait-law, distinct-law, count
 
 -- ---- claims about every element
 module _ {A : Type 0} where
-  all-const : {X : Type 0} (l : List A) → X → All (λ (x : A). X) l
-  all-const [] h = tt
-  all-const (x ∷ l) h = (h, all-const l h)
-
   keep-true : (p : A → Bool) (l : List A) → All (λ (x : A). p x ≡ true) (keep p l)
   keep-true p [] = tt
   keep-true p (x ∷ l) = go (p x) refl (keep-true p l)

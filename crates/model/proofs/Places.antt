@@ -4,7 +4,6 @@ use mathlib.Core.Logic.{_≢_}
 use mathlib.Core.Bool.{Bool, true, false}
 use mathlib.Core.List.{List, [], _∷_, _++_}
 use Prim.Native.Nat.{ℕ, suc}
-use lib.Dec.{eqb}
 use lib.IntN.{ℤ, pos, negsuc}
 use lib.ListN.{length}
 use Rattle.itron.specs.Codes.{eId}
@@ -12,7 +11,7 @@ use Rattle.model.specs.Lists.{at, consIf}
 use Rattle.model.specs.State.{Sem, Queue, Side, onSem, receiving, sending, Place, Waiter, State, noSem, noQueue, semAt, queueAt, domainAt, sameSide, samePlace}
 use Rattle.model.specs.Waits.{waitersIn, waitersAt, standsAt}
 use Rattle.model.specs.Calls.{Kind, semaphore, queue, Op, signal, acquire, send, receive, refer, setVector, call, no, kindOf, numberIn, isRefer, step}
-use Rattle.model.proofs.Lists.{ne-of, no-both}
+use Rattle.model.proofs.Lists.{eqb-same, no-both}
 use Rattle.model.proofs.Queues.{place-of}
 use Rattle.model.proofs.Answers.{Ready, InRange, refuses, id-when}
 
@@ -63,15 +62,8 @@ same-side onSem = refl
 same-side receiving = refl
 same-side sending = refl
 
-same-number : (n : ℕ) → eqb n n ≡ true
-same-number n = go (eqb n n) refl
-  where
-    go : (b : Bool) → eqb n n ≡ b → b ≡ true
-    go true e = refl
-    go false e = absurd (ne-of n n e refl)
-
 same-place : (p : Place) → samePlace p p ≡ true
-same-place p = rw (same-side (p .side), same-number (p .number))
+same-place p = rw (same-side (p .side), eqb-same (p .number))
 
 queued : (p : Place) (l : List Waiter) → Queued p l (waitersIn l p)
 queued p [] = end

@@ -2,6 +2,7 @@
 ghost use mathlib.Core.Path.{_≡_};
 ghost use lib.ListN.{length};
 ghost use Rattle.io.specs.Counts.{Counts};
+ghost use Rattle.text.specs.Names.{longestName};
 use itron::code::E_CTX;
 use itron::code::E_ID;
 use itron::code::E_MACV;
@@ -21,7 +22,7 @@ pub const LONGEST_NAME: usize = 8;
 
 // A name goes to the front of a block; how many bytes it has.
 fn put(out: &mut [u8; LONGEST_NAME], name: &[u8]) -> usize
-    requires { ⌜ length (now out) ≡ 8 ⌝ }
+    requires { ⌜ length (now out) ≡ longestName ⌝ }
     ensures { λ r. ⌜ Counts r (now (out .exit)) ⌝ }
 {
     let mut i: usize = 0;
@@ -37,7 +38,7 @@ fn put(out: &mut [u8; LONGEST_NAME], name: &[u8]) -> usize
 
 // The name of a code goes to the front of a block; how many bytes it has, 0 for a number that is no code.
 pub fn put_name(out: &mut [u8; LONGEST_NAME], number: i32) -> usize
-    requires { ⌜ length (now out) ≡ 8 ⌝ }
+    requires { ⌜ length (now out) ≡ longestName ⌝ }
     ensures { λ r. ⌜ Counts r (now (out .exit)) ⌝ }
 {
     match number {

@@ -46,7 +46,7 @@ wide-requires : tie.Need-wide-requires Inv-loop μ-loop
 wide-requires c κs = tt
 
 -- the value and the base are small, so the next value fits
-product : (v b : ℕ) → v < plainEnd → b < 256 → v * b ≤ 4294967295 * 255
+product : (v b : ℕ) → v < plainEnd → b ≤ 255 → v * b ≤ 4294967295 * 255
 product v b h k = le-trans (mul-le-mul-left {n = 255} v (omega arith)) (mul-le-mul-right {n = 4294967295} 255 (omega arith))
 
 mul-value : tie.Need-mul-value Inv-loop μ-loop

@@ -5,14 +5,15 @@ use native.Mathlib.Omega.{arith}
 use mathlib.Core.Path.{_≡_, sym}
 use lib.ListN.{length}
 use lib.Seq.{length-take-le}
+use Rattle.text.specs.Names.{longestName}
 use Rattle.text.proofs.code.put.Statement.{statement}
 use Rattle.text.proofs.code.put.Tie as tie
 
 abbrev Inv-loop : tie.InvT-loop
-Inv-loop out₀ name i₀ out i = (i ≤ 8) × (length out ≡ 8)
+Inv-loop out₀ name i₀ out i = (i ≤ longestName) × (length out ≡ longestName)
 
 abbrev μ-loop : tie.MeasureT-loop
-μ-loop out₀ name i₀ out i = 8 - i
+μ-loop out₀ name i₀ out i = longestName - i
 
 loop-holds : tie.Need-loop-holds Inv-loop μ-loop
 loop-holds c = search needs

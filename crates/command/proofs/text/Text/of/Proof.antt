@@ -4,6 +4,7 @@ use Prim.Native.Nat.{_+_, _-_, _≤_}
 use mathlib.Core.Path.{_≡_, sym, ap, _∙_}
 use native.Mathlib.Omega.{arith}
 use lib.ListN.{length, take, drop}
+use Rattle.command.specs.Lines.{lineSize}
 use Rattle.command.specs.Texts.{textOf, textFrom}
 use Rattle.command.proofs.Walks.{text-ends, text-goes, text-stops}
 use Rattle.command.specs.declared.text.Text.{Text}
@@ -11,7 +12,7 @@ use Rattle.command.proofs.text.Text.of.Statement.{statement}
 use Rattle.command.proofs.text.Text.of.Tie as tie
 
 abbrev Inv-loop : tie.InvT-loop
-Inv-loop line text₀ i₀ text i = (text .count ≤ 256) × (textOf line ≡ textFrom text (drop i (take (line .count) (line .bytes))))
+Inv-loop line text₀ i₀ text i = (text .count ≤ lineSize) × (textOf line ≡ textFrom text (drop i (take (line .count) (line .bytes))))
 
 abbrev μ-loop : tie.MeasureT-loop
 μ-loop line text₀ i₀ text i = line .count - i
@@ -21,7 +22,7 @@ empty-requires c κs = search needs
 
 -- the line's bytes hold the count that is read of them
 fits : (c : tie.After-empty Inv-loop μ-loop) → c .before .args .t1 .count ≤ length (c .before .args .t1 .bytes)
-fits c = let l : length (c .before .args .t1 .bytes) ≡ 256 = search needs in omega arith
+fits c = let l : length (c .before .args .t1 .bytes) ≡ lineSize = search needs in omega arith
 
 loop-holds : tie.Need-loop-holds Inv-loop μ-loop
 unfolding textOf
