@@ -62,11 +62,13 @@ pub fn numbers(mut s: State)
     heading(b"Numbers");
     s = pol_sem(s, 1, -1);
     s = pol_sem(s, 1, 0);
-    s = pol_sem(s, 1, 33);
+    s = pol_sem(s, 1, 65);
     s = pol_sem(s, 1, 2);
     s = pol_sem(s, 1, 32);
+    s = pol_sem(s, 1, 33);
     s = pol_sem(s, 3, 2);
-    s = pol_sem(s, 3, 32);
+    s = pol_sem(s, 3, 33);
+    s = pol_sem(s, 3, 64);
 }
 
 pub fn regions(table: State)

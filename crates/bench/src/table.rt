@@ -10,10 +10,13 @@ use crate::entries::given;
 use access::domain::KERNEL_DOMAIN;
 use access::domain::NO_DOMAIN;
 use access::vector::Choice;
+use itron::limit::Limits;
+use itron::limit::MAX_CAPACITY;
 use kernel::state::State;
 use regions::flag::EXECUTABLE;
 use regions::flag::NO_WRITE;
 use text::print::heading;
+use text::print::named;
 
 // Tasks, semaphore and queues of all runs, and the regions; document 01 leaves the owners open.
 pub fn closed() -> State
@@ -41,24 +44,40 @@ pub fn closed() -> State
     close(s)
 }
 
+// The limits, as the program has them.
+fn say_limits() {
+    let limits = Limits::all();
+    named(b"\n  limits: domains ", limits.domains as u64);
+    named(b", tasks ", limits.tasks as u64);
+    named(b", semaphores ", limits.semaphores as u64);
+    named(b", queues ", limits.queues as u64);
+    named(b", regions ", limits.regions as u64);
+    named(b", words of all queues ", limits.words as u64);
+    named(b", of one ", limits.capacity as u64);
+    named(b", count ", limits.count as u64);
+    named(b", addresses ", limits.addresses);
+}
+
 // Four queues of the largest capacity: half of all words.
 fn four_queues(mut s: State) -> State
     requires { ⌜ Valid s ⌝ }
     ensures { λ r. ⌜ Valid r ⌝ }
 {
-    s = add_queue(s, NO_DOMAIN, 0, 64, Choice::Default);
-    s = add_queue(s, NO_DOMAIN, 0, 64, Choice::Default);
-    s = add_queue(s, NO_DOMAIN, 0, 64, Choice::Default);
-    add_queue(s, NO_DOMAIN, 0, 64, Choice::Default)
+    s = add_queue(s, NO_DOMAIN, 0, MAX_CAPACITY, Choice::Default);
+    s = add_queue(s, NO_DOMAIN, 0, MAX_CAPACITY, Choice::Default);
+    s = add_queue(s, NO_DOMAIN, 0, MAX_CAPACITY, Choice::Default);
+    add_queue(s, NO_DOMAIN, 0, MAX_CAPACITY, Choice::Default)
 }
 
 pub fn limits() {
     heading(b"Table");
+    say_limits();
     let mut s = fresh(33);
     s = fresh(32);
     s = add_semaphore(s, NO_DOMAIN, 0, 0, 65_535, Choice::Default);
     s = add_semaphore(s, NO_DOMAIN, 0, 0, 65_536, Choice::Default);
     s = add_semaphore(s, NO_DOMAIN, 0, 2, 1, Choice::Default);
+    s = add_queue(s, NO_DOMAIN, 0, MAX_CAPACITY + 1, Choice::Default);
     s = four_queues(s);
     s = four_queues(s);
     s = add_queue(s, NO_DOMAIN, 0, 1, Choice::Default);

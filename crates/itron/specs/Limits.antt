@@ -1,15 +1,17 @@
--- The limits of document 01, each written once. Definitions only.
+-- The limits of documents 01 and 02, each written once. Definitions only.
 use Prim.Native.Nat.{ℕ}
+use Rattle.itron.specs.declared.limit.Limits.{Limits}
 
 -- user domains; also the bits of a pattern
 abbrev pub maxDomains : ℕ
 maxDomains = 32
 
+-- tasks, semaphores, data queues and memory regions of a table
 abbrev pub maxTasks : ℕ
-maxTasks = 64
+maxTasks = 255
 
 abbrev pub maxSemaphores : ℕ
-maxSemaphores = 32
+maxSemaphores = 64
 
 abbrev pub maxQueues : ℕ
 maxQueues = 16
@@ -19,10 +21,10 @@ maxRegions = 64
 
 -- words of all data queues together, and of one
 abbrev pub maxWords : ℕ
-maxWords = 512
+maxWords = 2048
 
 abbrev pub maxCapacity : ℕ
-maxCapacity = 64
+maxCapacity = 256
 
 -- the largest maximum count of a semaphore
 abbrev pub maxCount : ℕ
@@ -31,3 +33,7 @@ maxCount = 65535
 -- 2^32, the first number that is no address
 abbrev pub addressEnd : ℕ
 addressEnd = 4294967296
+
+-- all of them: what the program's numbers are tied to
+abbrev pub limits : Limits
+limits = record { domains = maxDomains; tasks = maxTasks; semaphores = maxSemaphores; queues = maxQueues; regions = maxRegions; words = maxWords; capacity = maxCapacity; count = maxCount; addresses = addressEnd }

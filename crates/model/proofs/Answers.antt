@@ -28,7 +28,7 @@ use Rattle.model.proofs.Tests.{Tells, holds, fails, le-tells, lt-tells,
 abbrev pub Ready : State → ℕ → Type 0
 Ready s t = (s .fixed .closed ≡ true) × (((t ≢ 0) × (t ≤ length (s .fixed .domains))) × All (λ (e : Waiter). t ≢ e .task) (s .waits))
 
--- "Number outside 1 to 32 (semaphore) or 1 to 16 (queue)"
+-- a number outside 1 to the limit of its kind
 abbrev pub InRange : Kind → ℕ → Type 0
 InRange semaphore n = (n ≢ 0) × (n ≤ maxSemaphores)
 InRange queue n = (n ≢ 0) × (n ≤ maxQueues)
@@ -112,7 +112,7 @@ module _ (s : State) (t : ℤ) (op : Op) where
   unfolding check
   ctx-when f = answer-by (some eCtx) (stops-at (ready-tells s (no t)) _ _ f)
 
-  -- "Number outside 1 to 32 (semaphore) or 1 to 16 (queue): E_ID"
+  -- a number outside 1 to the limit of its kind: E_ID
   pub id-when : Ready s (no t) → (InRange (kindOf op) (no (numberIn op)) → ⊥) → step s (call t op) .answer ≡ refuses eId
   unfolding check
   id-when r f = answer-by (some eId) (passes-on (ready-tells s (no t)) _ _ r ∙ stops-at (range-tells (kindOf op) (no (numberIn op))) _ _ f)

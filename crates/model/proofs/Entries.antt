@@ -54,7 +54,7 @@ Attribute (sem d a b m v) = a ≡ 0
 Attribute (queue d a c v) = a ≡ 0
 Attribute (region d a b z v) = (((a ≡ 0) ⊎ (a ≡ 1)) ⊎ (a ≡ 4)) ⊎ (a ≡ 5)
 
--- "1 <= max <= 65,535 and 0 <= start <= max; queue capacity 0 to 64; region size at least 1 and base + size at most 2^32"
+-- "1 <= max <= 65,535 and 0 <= start <= max"; a queue's capacity within its limit; "region size at least 1 and base + size at most 2^32"
 abbrev pub Numbers : Entry → Type 0
 Numbers (task d) = Unit
 Numbers (sem d a b m v) = ((1 ≤ m) × (m ≤ maxCount)) × (b ≤ m)
@@ -68,7 +68,7 @@ Above s (sem d a b m v) = Unit
 Above s (queue d a c v) = Unit
 Above s (region d a b z v) = (l : List Region) (r : Region) → s .fixed .regions ≡ l ++ (r ∷ []) → r .base + r .size ≤ b
 
--- "queue words above 512 in total"
+-- queue words above their limit in total
 abbrev pub capacities : List Queue → ℕ
 capacities [] = 0
 capacities (q ∷ l) = q .capacity + capacities l
@@ -220,7 +220,7 @@ module _ (s : State) (e : Entry) where
               past-obj : checkEntry s e ≡ afterPlace
               past-obj = past-par ∙ passes-on (above-tells s e) eObj afterPlace u
 
-              -- "queue words above 512 in total: E_NOMEM"
+              -- queue words above their limit in total: E_NOMEM
               pub enter-nomem : (Memory s e → ⊥) → enter s e .answer .code ≡ error eNomem
               enter-nomem f = code-by eNomem (past-obj ∙ stops-at (memory-tells s e) eNomem none f)
 

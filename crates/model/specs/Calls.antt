@@ -93,7 +93,7 @@ vectorAt s queue q = queueAt s q .vector
 abbrev pub ready : State → ℕ → Bool
 ready s t = not (eqb t 0) && leb t (length (s .fixed .domains)) && absent t (s .waits)
 
--- a number from 1 to 32 (semaphore) or 1 to 16 (queue)
+-- a number from 1 to the limit of its kind
 abbrev pub inRange : Kind → ℕ → Bool
 inRange k n = not (eqb n 0) && leb n (most k)
 

@@ -15,7 +15,7 @@ use Rattle.model.specs.Waits.{Patience, waitersIn, firstTask, wakes, orW
 abbrev pub attributeOk : ℕ → Bool
 attributeOk a = eqb a 0
 
--- 5. queue capacity 0 to 64
+-- 5. queue capacity 0 to its limit
 abbrev pub numbersOk : ℕ → Bool
 numbersOk capacity = leb capacity maxCapacity
 
@@ -24,7 +24,7 @@ abbrev pub wordsUsed : List Queue → ℕ
 wordsUsed [] = 0
 wordsUsed (q ∷ l) = q .capacity + wordsUsed l
 
--- 7. queue words above 512 in total: E_NOMEM
+-- 7. queue words above their limit in total: E_NOMEM
 abbrev pub memoryOk : List Queue → ℕ → Bool
 memoryOk xs capacity = leb (wordsUsed xs + capacity) maxWords
 

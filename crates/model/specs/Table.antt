@@ -74,7 +74,7 @@ placeOk s (sem d a b m v) = true
 placeOk s (queue d a c v) = true
 placeOk s (region d a b z v) = Regions.placeOk (s .fixed .regions) b
 
--- 7. queue words above 512 in total: E_NOMEM
+-- 7. queue words above their limit in total: E_NOMEM
 abbrev pub memoryOk : State → Entry → Bool
 memoryOk s (task d) = true
 memoryOk s (sem d a b m v) = true

@@ -1,10 +1,24 @@
 // Bytes, texts and numbers put into a block.
+use itron::limit::MAX_CAPACITY;
+use itron::limit::MAX_TASKS;
 use text::sign::magnitude;
 
-// The longest line is that of a data queue with 64 words and 64 who wait: below 2,048 bytes. Who puts a line leaves room for one.
-pub const BLOCK: usize = 4096;
+// An echo with its answer, or a line of a dump without its lists, is shorter.
+const PLAIN_LINE: usize = 512;
 
-pub const LONGEST_LINE: usize = 2048;
+// A comma and a word of ten digits.
+const LISTED_WORD: usize = 11;
+
+// A comma, a task's number of three digits, a colon and a word.
+const LISTED_SENDER: usize = 15;
+
+// The longest line is that of a data queue whose buffer is full and on which all tasks wait to send.
+pub const LONGEST_LINE: usize = PLAIN_LINE
+    + MAX_CAPACITY as usize * LISTED_WORD
+    + MAX_TASKS * LISTED_SENDER;
+
+// Who puts a line leaves room for one.
+pub const BLOCK: usize = 2 * LONGEST_LINE;
 
 // Each of these puts something behind the `at` bytes of the block, and answers how many there are then.
 pub fn put_byte(out: &mut [u8; BLOCK], at: usize, byte: u8) -> usize {

@@ -1,6 +1,7 @@
 -- `report::object::put_waiters` is safe and ends. The measure is the count of tasks that are not yet asked for. Assumes nothing.
 use borrow.Author.Needs.{needs}
 use Prim.Native.Nat.{_-_}
+use Rattle.itron.specs.Limits.{maxTasks}
 use Rattle.report.proofs.object.put_waiters.Statement.{statement}
 use Rattle.report.proofs.object.put_waiters.Tie as tie
 
@@ -8,7 +9,7 @@ abbrev Inv-loop : tie.InvT-loop
 Inv-loop out₀ at state side number end₀ k₀ out end k = Unit {0}
 
 abbrev μ-loop : tie.MeasureT-loop
-μ-loop out₀ at state side number end₀ k₀ out end k = 64 - k
+μ-loop out₀ at state side number end₀ k₀ out end k = maxTasks - k
 
 loop-holds : tie.Need-loop-holds Inv-loop μ-loop
 loop-holds c = search needs
