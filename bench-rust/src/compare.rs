@@ -17,8 +17,8 @@ const ALL_FUNCTIONS: [u32; 13] = [
     SAC_DTQ,
 ];
 const WRONG_FUNCTIONS: [u32; 4] = [0, 12, 0x8000_0000, u32::MAX];
-const WRONG_CALLERS: [i32; 7] = [-1, 0, 5, 64, 65, i32::MIN, i32::MAX];
-const WRONG_OBJECTS: [i32; 10] = [0, -1, 2, 3, 16, 17, 32, 33, i32::MIN, i32::MAX];
+const WRONG_CALLERS: [i32; 7] = [-1, 0, 5, 255, 256, i32::MIN, i32::MAX];
+const WRONG_OBJECTS: [i32; 10] = [0, -1, 2, 3, 16, 17, 64, 65, i32::MIN, i32::MAX];
 
 const CODES: [Er; 9] = [WAITING, E_OK, E_RSFN, E_ID, E_CTX, E_OACV, E_NOEXS, E_QOVR, E_TMOUT];
 const NAMES: [&str; 9] = ["waiting", "E_OK", "E_RSFN", "E_ID", "E_CTX", "E_OACV", "E_NOEXS", "E_QOVR", "E_TMOUT"];

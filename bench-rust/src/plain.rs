@@ -20,13 +20,13 @@ pub const E_QOVR: Er = -43;
 pub const E_TMOUT: Er = -50;
 
 pub const MAX_DOMAINS: i32 = 32;
-pub const MAX_TASKS: usize = 64;
-pub const MAX_SEMAPHORES: usize = 32;
+pub const MAX_TASKS: usize = 255;
+pub const MAX_SEMAPHORES: usize = 64;
 pub const MAX_QUEUES: usize = 16;
 pub const MAX_REGIONS: usize = 64;
-pub const MAX_WORDS: usize = 512;
+pub const MAX_WORDS: usize = 2_048;
 pub const MAX_SEMAPHORE_COUNT: u32 = 65_535;
-pub const MAX_QUEUE_CAPACITY: u32 = 64;
+pub const MAX_QUEUE_CAPACITY: u32 = 256;
 
 pub const TDOM_KERNEL: i32 = -1;
 pub const TDOM_NONE: i32 = -2;

@@ -11,7 +11,7 @@ const SEED: u64 = 88_172_645_463_325_252;
 const SCRIPTS: u32 = 300;
 const PROGRAM: &str = "../target/bin/replay";
 
-const ENDS: [i32; 9] = [i32::MIN, -3, -2, -1, 0, 17, 33, 65, i32::MAX];
+const ENDS: [i32; 12] = [i32::MIN, -3, -2, -1, 0, 17, 33, 64, 65, 255, 256, i32::MAX];
 
 /// Commands, and the lines that `replay` is to write for them.
 #[derive(Default)]
@@ -94,7 +94,7 @@ fn entry(random: &mut Random, kernel: &mut Kernel, script: &mut Script, top: &mu
             script.add(format!("sem {domain} {atr} {start} {max}{given}"), answer);
         }
         2 => {
-            let capacity = random.pick(&[0, 0, 1, 2, 64, 64, 64, 64, 65]);
+            let capacity = random.pick(&[0, 0, 1, 2, MAX_QUEUE_CAPACITY, MAX_QUEUE_CAPACITY, MAX_QUEUE_CAPACITY, MAX_QUEUE_CAPACITY, MAX_QUEUE_CAPACITY + 1]);
             let answer = code(kernel.add_queue(domain, atr, capacity, vector));
             script.add(format!("dtq {domain} {atr} {capacity}{given}"), answer);
         }
@@ -156,7 +156,8 @@ fn random_script(random: &mut Random) -> Script {
     for domain in [1, 2, TDOM_KERNEL, 1, 1, 2] {
         script.add(format!("task {domain}"), code(kernel.add_task(domain)));
     }
-    for _ in 0..random.pick(&[8, 20, 90]) {
+    // The largest number fills every kind up.
+    for _ in 0..random.pick(&[8, 20, 90, 1_500]) {
         entry(random, &mut kernel, &mut script, &mut top);
     }
     for _ in 0..random.pick(&[0, 1, 1, 1, 1, 1, 2]) {

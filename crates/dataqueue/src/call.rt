@@ -4,10 +4,11 @@ ghost use Prim.Native.Nat.{suc, _<_};
 ghost use lib.ListN.{length};
 ghost use Rattle.model.specs.Queues as Model;
 ghost use Rattle.tasks.specs.View.{domainsOf, waitsOf};
-ghost use Rattle.tasks.specs.Held.{Held as TasksHeld, Free};
+ghost use Rattle.tasks.specs.Held.{Held as TasksHeld};
+ghost use Rattle.tasks.specs.Checks.{Passed};
 ghost use Rattle.dataqueue.specs.View.{queuesOf};
 ghost use Rattle.dataqueue.specs.Held.{Held};
-ghost use Rattle.dataqueue.specs.Effects.{effectAs, doneWith, endedWith, statusOf};
+ghost use Rattle.dataqueue.specs.Effects.{sent, received, doneWith, endedWith, statusOf};
 use crate::state::Queues;
 use access::vector::Vector;
 use itron::code::E_OK;
@@ -16,6 +17,7 @@ use model::Patience;
 use model::Released;
 use model::Reply;
 use model::Side;
+use tasks::check::Check;
 use tasks::state::Tasks;
 use tasks::task::Wait;
 use tasks::wait::Ended;
@@ -64,58 +66,64 @@ pub(crate) fn ended(end: Ended, queues: Queues) -> Effect
     }
 }
 
-// Both sends, by a ready task on a registered queue.
-pub fn send(
-    tasks: Tasks,
-    queues: Queues,
-    task: usize,
-    object: usize,
-    word: u32,
-    patience: Patience,
-) -> Effect
-    requires { ⌜ TasksHeld tasks × Held queues × Free (domainsOf tasks) (waitsOf tasks) task × (object < length (queuesOf queues)) ⌝ }
-    ensures { λ r. ⌜ r ≡ effectAs (domainsOf tasks) (Model.send (waitsOf tasks) (queuesOf queues) (suc task) (suc object) word patience) ⌝ }
+// Both sends.
+pub fn send(tasks: Tasks, queues: Queues, check: Check, word: u32, patience: Patience) -> Effect
+    requires { ⌜ TasksHeld tasks × Held queues × Passed tasks (length (queuesOf queues)) check ⌝ }
+    ensures { λ r. ⌜ r ≡ sent tasks queues word patience check ⌝ }
 {
-    match tasks.first(Side::Receiving, object) {
-        First::Waiter(receiver, _) => ended(tasks.wake(receiver, 0, word), queues),
-        First::Nobody => {
-            if queues.has_room(object) {
-                done(tasks, queues.push(object, word), 0)
-            } else {
-                ended(
-                    tasks.or_wait(task, Wait::Sending(object as u8, word), patience),
-                    queues,
-                )
-            }
+    match check {
+        Check::Refused(code) => Effect {
+            reply: Reply::plain(code, 0),
+            tasks,
+            queues,
+        },
+        Check::Admitted(task, object) => match tasks.first(Side::Receiving, object) {
+            First::Waiter(receiver, _) => ended(tasks.wake(receiver, 0, word), queues),
+            First::Nobody => {
+                if queues.has_room(object) {
+                    done(tasks, queues.push(object, word), 0)
+                } else {
+                    ended(
+                        tasks.or_wait(task, Wait::Sending(object as u8, word), patience),
+                        queues,
+                    )
+                }
+            },
         },
     }
 }
 
-// Both receives, by a ready task on a registered queue.
-pub fn receive(
-    tasks: Tasks,
-    queues: Queues,
-    task: usize,
-    object: usize,
-    patience: Patience,
-) -> Effect
-    requires { ⌜ TasksHeld tasks × Held queues × Free (domainsOf tasks) (waitsOf tasks) task × (object < length (queuesOf queues)) ⌝ }
-    ensures { λ r. ⌜ r ≡ effectAs (domainsOf tasks) (Model.receive (waitsOf tasks) (queuesOf queues) (suc task) (suc object) patience) ⌝ }
+// Both receives.
+pub fn receive(tasks: Tasks, queues: Queues, check: Check, patience: Patience) -> Effect
+    requires { ⌜ TasksHeld tasks × Held queues × Passed tasks (length (queuesOf queues)) check ⌝ }
+    ensures { λ r. ⌜ r ≡ received tasks queues patience check ⌝ }
 {
-    let sender = tasks.first(Side::Sending, object);
-    if queues.buffered(object) == 0 {
-        return match sender {
-            First::Waiter(from, sent) => ended(tasks.wake(from, sent, 0), queues),
-            First::Nobody => ended(
-                tasks.or_wait(task, Wait::Receiving(object as u8), patience),
-                queues,
-            ),
-        };
-    }
-    let word = queues.oldest(object);
-    match sender {
-        First::Waiter(from, sent) => ended(tasks.wake(from, word, 0), queues.refill(object, sent)),
-        First::Nobody => done(tasks, queues.pop(object), word),
+    match check {
+        Check::Refused(code) => Effect {
+            reply: Reply::plain(code, 0),
+            tasks,
+            queues,
+        },
+        Check::Admitted(task, object) => {
+            let sender = tasks.first(Side::Sending, object);
+            if queues.buffered(object) == 0 {
+                return match sender {
+                    First::Waiter(from, sent) => ended(tasks.wake(from, sent, 0), queues),
+                    First::Nobody => ended(
+                        tasks.or_wait(task, Wait::Receiving(object as u8), patience),
+                        queues,
+                    ),
+                };
+            }
+            let word = queues.oldest(object);
+            match sender {
+                First::Waiter(from, sent) => ended(
+                    tasks.wake(from, word, 0),
+                    queues.refill(object, sent),
+                ),
+                First::Nobody => done(tasks, queues.pop(object), word),
+            }
+        },
     }
 }
 

@@ -23,6 +23,7 @@ use Rattle.model.specs.declared.Reply.{Reply}
 use Rattle.model.proofs.Cover.{passed}
 use Rattle.tasks.specs.Form.{tasksAs}
 use Rattle.tasks.specs.Held.{Free}
+use Rattle.tasks.specs.Checks.{Passed}
 use Rattle.semaphore.specs.declared.call.Effect as SemaphoreEffect
 use Rattle.semaphore.specs.declared.call.SemaphoreStatus.{SemaphoreStatus}
 use Rattle.semaphore.specs.Form.{semsAs}
@@ -37,18 +38,14 @@ use Rattle.kernel.specs.declared.state.State.{State}
 use Rattle.kernel.specs.declared.state.Answer.{Answer}
 use Rattle.kernel.specs.declared.sem.SemaphoreReport.{SemaphoreReport}
 use Rattle.kernel.specs.declared.dtq.QueueReport.{QueueReport}
-use Rattle.kernel.specs.declared.check.Check.{Check}
-use Rattle.kernel.specs.declared.check.Check.the-variants.{Refused, Admitted}
+use Rattle.tasks.specs.declared.check.Check.{Check}
+use Rattle.tasks.specs.declared.check.Check.the-variants.{Refused, Admitted}
 use Rattle.kernel.specs.View.{viewOf}
 use Rattle.kernel.specs.Valid.{Valid}
 use Rattle.kernel.specs.Promises.{Does}
 use Rattle.kernel.proofs.Back.{promise}
 use Rattle.kernel.specs.Answers.{answered, answerOf, semaphoreReportOf, queueReportOf}
-use Rattle.kernel.specs.Inside.{withSemaphores, withQueues, checked}
-
--- what the checks give for a call
-abbrev pub checkOf : State → ℤ → Op → Check
-checkOf s z op = checked (check (viewOf s) (no z) (operationOf op) (no (numberIn op)) (kindOf op)) (no z) (no (numberIn op))
+use Rattle.kernel.specs.Inside.{withSemaphores, withQueues, checked, checkOf}
 
 -- ---- a call that the checks refuse: the model's answer is that refusal, its state the one it got
 pub record Refusal (s : State) (z : ℤ) (op : Op) (code : ℤ) : Type 0 where
@@ -96,6 +93,10 @@ admission s z op t o e = go (check (viewOf s) (no z) (operationOf op) (no (numbe
           acts = ap (λ (n : ℕ). act (viewOf s) n op) (sym a) ∙ ap (actIf (viewOf s) (no z) op) (sym c);
         }
 
+-- what an effect may take for granted of what the checks found
+pub passes : (s : State) (z : ℤ) (op : Op) {k : Check} → checkOf s z op ≡ k → Passed (s .tasks) (registered (viewOf s) (kindOf op)) k
+passes s z op h = record { free = λ t o e. admission s z op t o (h ∙ e) .free; there = λ t o e. admission s z op t o (h ∙ e) .there }
+
 -- ---- the parts put back
 module _ {s : State} (v : Valid s) where
   refused : (z : ℤ) (op : Op) (code : ℤ) → checkOf s z op ≡ Refused code → answered (plain code 0) s ≡ answerOf (step (viewOf s) (call z op))
@@ -137,17 +138,41 @@ module _ {s : State} (v : Valid s) (z : ℤ) (op : Op) where
   pub refuses : {r : Answer} (d : ℤ) → checkOf s z op ≡ Refused d → toZ w32 (ofZ w32 d) ≡ d → r ≡ answered (plain (toZ w32 (ofZ w32 d)) 0) s → Does s (call z op) r
   refuses d h e q = promise v (call z op) (q ∙ ap (λ (x : ℤ). answered (plain x 0) s) e ∙ refused v z op d h)
 
-  pub on-semaphore : {t o : ℕ} {x : SemaphoreEffect.Effect} {r : Answer} (f : ℕ → Answers.Effect Sem) → Admission s z op t o
+  on-semaphore : {t o : ℕ} {x : SemaphoreEffect.Effect} {r : Answer} (f : ℕ → Answers.Effect Sem) → Admission s z op t o
       → onSemaphores (viewOf s) (f (no (numberIn op))) ≡ act (viewOf s) (suc t) op
       → x ≡ SemaphoreEffects.effectAs (viewOf s .fixed .domains) (f (suc o)) → r ≡ answered (x .reply) (withSemaphores s (x .tasks) (x .semaphores)) → Does s (call z op) r
   on-semaphore {o} {x} f a h e q =
       promise v (call z op) (q ∙ on-semaphores v (f (suc o)) x e ∙ ap (λ (n : ℕ). answerOf (onSemaphores (viewOf s) (f n))) (sym (a .object)) ∙ ap answerOf (h ∙ a .acts))
 
-  pub on-queue : {t o : ℕ} {x : QueueEffect.Effect} {r : Answer} (f : ℕ → Answers.Effect Queue) → Admission s z op t o
+  on-queue : {t o : ℕ} {x : QueueEffect.Effect} {r : Answer} (f : ℕ → Answers.Effect Queue) → Admission s z op t o
       → onQueues (viewOf s) (f (no (numberIn op))) ≡ act (viewOf s) (suc t) op
       → x ≡ QueueEffects.effectAs (viewOf s .fixed .domains) (f (suc o)) → r ≡ answered (x .reply) (withQueues s (x .tasks) (x .queues)) → Does s (call z op) r
   on-queue {o} {x} f a h e q =
       promise v (call z op) (q ∙ on-queues v (f (suc o)) x e ∙ ap (λ (n : ℕ). answerOf (onQueues (viewOf s) (f n))) (sym (a .object)) ∙ ap answerOf (h ∙ a .acts))
+
+  -- a call whose effect on the tasks and the semaphores goes by what the checks found: a refusal, or f of the task and the object
+  pub by-semaphores : (does : Check → SemaphoreEffect.Effect) (f : ℕ → ℕ → Answers.Effect Sem)
+      → ((d : ℤ) → does (Refused d) ≡ record { reply = plain d 0; tasks = s .tasks; semaphores = s .semaphores })
+      → ((t o : ℕ) → does (Admitted t o) ≡ SemaphoreEffects.effectAs (viewOf s .fixed .domains) (f (suc t) (suc o)))
+      → ((t : ℕ) → onSemaphores (viewOf s) (f (suc t) (no (numberIn op))) ≡ act (viewOf s) (suc t) op)
+      → {x : SemaphoreEffect.Effect} {r : Answer} → x ≡ does (checkOf s z op) → r ≡ answered (x .reply) (withSemaphores s (x .tasks) (x .semaphores)) → Does s (call z op) r
+  by-semaphores does f refuse admit acts {x} {r} e q = go (checkOf s z op) refl
+    where
+      go : (k : Check) → checkOf s z op ≡ k → Does s (call z op) r
+      go (Refused d) h = promise v (call z op) (q ∙ ap (λ (y : SemaphoreEffect.Effect). answered (y .reply) (withSemaphores s (y .tasks) (y .semaphores))) (e ∙ ap does h ∙ refuse d) ∙ refused v z op d h)
+      go (Admitted t o) h = on-semaphore (f (suc t)) (admission s z op t o h) (acts t) (e ∙ ap does h ∙ admit t o) q
+
+  -- the same of the data queues
+  pub by-queues : (does : Check → QueueEffect.Effect) (f : ℕ → ℕ → Answers.Effect Queue)
+      → ((d : ℤ) → does (Refused d) ≡ record { reply = plain d 0; tasks = s .tasks; queues = s .queues })
+      → ((t o : ℕ) → does (Admitted t o) ≡ QueueEffects.effectAs (viewOf s .fixed .domains) (f (suc t) (suc o)))
+      → ((t : ℕ) → onQueues (viewOf s) (f (suc t) (no (numberIn op))) ≡ act (viewOf s) (suc t) op)
+      → {x : QueueEffect.Effect} {r : Answer} → x ≡ does (checkOf s z op) → r ≡ answered (x .reply) (withQueues s (x .tasks) (x .queues)) → Does s (call z op) r
+  by-queues does f refuse admit acts {x} {r} e q = go (checkOf s z op) refl
+    where
+      go : (k : Check) → checkOf s z op ≡ k → Does s (call z op) r
+      go (Refused d) h = promise v (call z op) (q ∙ ap (λ (y : QueueEffect.Effect). answered (y .reply) (withQueues s (y .tasks) (y .queues))) (e ∙ ap does h ∙ refuse d) ∙ refused v z op d h)
+      go (Admitted t o) h = on-queue (f (suc t)) (admission s z op t o h) (acts t) (e ∙ ap does h ∙ admit t o) q
 
   pub sets-semaphore : {t o : ℕ} {x : SemaphoreState.Semaphores} {p : Reply} {r : Answer} (u : Vector) → Admission s z op t o
       → Answers.done (setVectorOf (viewOf s) semaphore (no (numberIn op)) u) ≡ act (viewOf s) (suc t) op

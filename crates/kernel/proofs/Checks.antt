@@ -22,7 +22,7 @@ use Rattle.model.proofs.Kind.{the-type as kind-type}
 use Rattle.tasks.specs.declared.wait.Caller.{Caller}
 use Rattle.tasks.specs.declared.wait.Caller.the-variants as Caller
 use Rattle.tasks.proofs.wait.Caller.{the-type as caller-type}
-use Rattle.kernel.specs.declared.check.Check.the-variants.{Refused, Admitted}
+use Rattle.tasks.specs.declared.check.Check.the-variants.{Refused, Admitted}
 use Rattle.kernel.specs.Inside.{callerIn, checked}
 
 pub nobody : (w : Caller) → OneOf (0 ∷ []) (tagOf caller-type w) → w ≡ Caller.Nobody

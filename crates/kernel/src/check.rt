@@ -18,13 +18,8 @@ use itron::code::E_OACV;
 use itron::limit::MAX_QUEUES;
 use itron::limit::MAX_SEMAPHORES;
 use model::Kind;
+use tasks::check::Check;
 use tasks::wait::Caller;
-
-// A refusal's code, or the indexes of the calling task and of the object.
-pub(crate) enum Check {
-    Refused(i32),
-    Admitted(usize, usize),
-}
 
 // How many objects of a kind there can be.
 pub(crate) fn most(kind: Kind) -> usize

@@ -3,13 +3,16 @@ ghost use Rattle.model.specs.Calls as Model;
 ghost use Rattle.model.specs.Calls.{call};
 ghost use Rattle.model.specs.declared.Kind.the-variants as Kinds;
 ghost use Rattle.model.specs.declared.Patience.the-variants as Patiences;
+ghost use mathlib.Core.Path.{_≡_};
+ghost use Rattle.dataqueue.specs.Effects.{sent, received};
 ghost use Rattle.kernel.specs.Valid.{Valid};
+ghost use Rattle.kernel.specs.Inside.{checkOf};
 ghost use Rattle.kernel.specs.Promises.{Does, TellsQueue};
-use crate::check::Check;
 use crate::state::Answer;
 use crate::state::State;
 use access::vector::Operation;
 use access::vector::Vector;
+use dataqueue::call::Effect;
 use dataqueue::call::receive;
 use dataqueue::call::refer;
 use dataqueue::call::send;
@@ -17,6 +20,7 @@ use itron::code::E_OK;
 use model::Kind;
 use model::Patience;
 use model::Reply;
+use tasks::check::Check;
 
 // What a refer to a data queue answers: the first who waits to send and to receive (0 if none), the number of buffered words, its vector.
 pub struct QueueReport {
@@ -29,19 +33,34 @@ pub struct QueueReport {
 }
 
 impl State {
+    // What a send does to the tasks and the queues.
+    pub(crate) fn send_effect(self, caller: i32, id: i32, word: u32, patience: Patience) -> Effect
+        requires { ⌜ Valid self ⌝ }
+        ensures { λ r. ⌜ r ≡ sent (self .tasks) (self .queues) word patience (checkOf self caller (Model.send patience id word)) ⌝ }
+    {
+        let tasks = self.tasks;
+        let queues = self.queues;
+        let check = self.check(caller, Kind::Queue, id, Operation::Normal1);
+        send(tasks, queues, check, word, patience)
+    }
+
     // Both sends.
     pub(crate) fn send(mut self, caller: i32, id: i32, word: u32, patience: Patience) -> Answer
         requires { ⌜ Valid self ⌝ }
         ensures { λ r. ⌜ Does self (call caller (Model.send patience id word)) r ⌝ }
     {
-        match self.check(caller, Kind::Queue, id, Operation::Normal1) {
-            Check::Refused(code) => self.refuse(code),
-            Check::Admitted(task, object) => {
-                let tasks = self.tasks;
-                let queues = self.queues;
-                self.with_queues(send(tasks, queues, task, object, word, patience))
-            },
-        }
+        self.with_queues(self.send_effect(caller, id, word, patience))
+    }
+
+    // What a receive does to them.
+    pub(crate) fn receive_effect(self, caller: i32, id: i32, patience: Patience) -> Effect
+        requires { ⌜ Valid self ⌝ }
+        ensures { λ r. ⌜ r ≡ received (self .tasks) (self .queues) patience (checkOf self caller (Model.receive patience id)) ⌝ }
+    {
+        let tasks = self.tasks;
+        let queues = self.queues;
+        let check = self.check(caller, Kind::Queue, id, Operation::Normal2);
+        receive(tasks, queues, check, patience)
     }
 
     // Both receives.
@@ -49,14 +68,7 @@ impl State {
         requires { ⌜ Valid self ⌝ }
         ensures { λ r. ⌜ Does self (call caller (Model.receive patience id)) r ⌝ }
     {
-        match self.check(caller, Kind::Queue, id, Operation::Normal2) {
-            Check::Refused(code) => self.refuse(code),
-            Check::Admitted(task, object) => {
-                let tasks = self.tasks;
-                let queues = self.queues;
-                self.with_queues(receive(tasks, queues, task, object, patience))
-            },
-        }
+        self.with_queues(self.receive_effect(caller, id, patience))
     }
 
     // Poll-send.

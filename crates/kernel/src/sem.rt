@@ -3,9 +3,11 @@ ghost use Rattle.model.specs.Calls as Model;
 ghost use Rattle.model.specs.Calls.{call};
 ghost use Rattle.model.specs.declared.Kind.the-variants as Kinds;
 ghost use Rattle.model.specs.declared.Patience.the-variants as Patiences;
+ghost use mathlib.Core.Path.{_≡_};
+ghost use Rattle.semaphore.specs.Effects.{signalled, acquired};
 ghost use Rattle.kernel.specs.Valid.{Valid};
+ghost use Rattle.kernel.specs.Inside.{checkOf};
 ghost use Rattle.kernel.specs.Promises.{Does, TellsSemaphore};
-use crate::check::Check;
 use crate::state::Answer;
 use crate::state::State;
 use access::vector::Operation;
@@ -14,9 +16,11 @@ use itron::code::E_OK;
 use model::Kind;
 use model::Patience;
 use model::Reply;
+use semaphore::call::Effect;
 use semaphore::call::acquire;
 use semaphore::call::refer;
 use semaphore::call::signal;
+use tasks::check::Check;
 
 // What a refer to a semaphore answers: its first waiter (0 if none), its count and its vector.
 pub struct SemaphoreReport {
@@ -28,19 +32,34 @@ pub struct SemaphoreReport {
 }
 
 impl State {
+    // What a signal does to the tasks and the semaphores.
+    pub(crate) fn signal_effect(self, caller: i32, id: i32) -> Effect
+        requires { ⌜ Valid self ⌝ }
+        ensures { λ r. ⌜ r ≡ signalled (self .tasks) (self .semaphores) (checkOf self caller (Model.signal id)) ⌝ }
+    {
+        let tasks = self.tasks;
+        let semaphores = self.semaphores;
+        let check = self.check(caller, Kind::Semaphore, id, Operation::Normal1);
+        signal(tasks, semaphores, check)
+    }
+
     // Signal.
     pub fn sig_sem(mut self, caller: i32, id: i32) -> Answer
         requires { ⌜ Valid self ⌝ }
         ensures { λ r. ⌜ Does self (call caller (Model.signal id)) r ⌝ }
     {
-        match self.check(caller, Kind::Semaphore, id, Operation::Normal1) {
-            Check::Refused(code) => self.refuse(code),
-            Check::Admitted(_, object) => {
-                let tasks = self.tasks;
-                let semaphores = self.semaphores;
-                self.with_semaphores(signal(tasks, semaphores, object))
-            },
-        }
+        self.with_semaphores(self.signal_effect(caller, id))
+    }
+
+    // What a poll or a wait does to them.
+    pub(crate) fn acquire_effect(self, caller: i32, id: i32, patience: Patience) -> Effect
+        requires { ⌜ Valid self ⌝ }
+        ensures { λ r. ⌜ r ≡ acquired (self .tasks) (self .semaphores) patience (checkOf self caller (Model.acquire patience id)) ⌝ }
+    {
+        let tasks = self.tasks;
+        let semaphores = self.semaphores;
+        let check = self.check(caller, Kind::Semaphore, id, Operation::Normal2);
+        acquire(tasks, semaphores, check, patience)
     }
 
     // Poll and wait.
@@ -48,14 +67,7 @@ impl State {
         requires { ⌜ Valid self ⌝ }
         ensures { λ r. ⌜ Does self (call caller (Model.acquire patience id)) r ⌝ }
     {
-        match self.check(caller, Kind::Semaphore, id, Operation::Normal2) {
-            Check::Refused(code) => self.refuse(code),
-            Check::Admitted(task, object) => {
-                let tasks = self.tasks;
-                let semaphores = self.semaphores;
-                self.with_semaphores(acquire(tasks, semaphores, task, object, patience))
-            },
-        }
+        self.with_semaphores(self.acquire_effect(caller, id, patience))
     }
 
     // Poll.

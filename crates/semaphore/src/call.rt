@@ -8,10 +8,10 @@ ghost use Rattle.model.specs.Semaphores as Model;
 ghost use Rattle.model.specs.Semaphores.{semIn, signalBy};
 ghost use Rattle.tasks.specs.View.{domainsOf, waitsOf};
 ghost use Rattle.tasks.specs.Held as TasksHeld;
-ghost use Rattle.tasks.specs.Held.{Free};
+ghost use Rattle.tasks.specs.Checks.{Passed};
 ghost use Rattle.semaphore.specs.View.{semsOf};
 ghost use Rattle.semaphore.specs.Held.{Held};
-ghost use Rattle.semaphore.specs.Effects.{effectAs, countedOf, statusOf};
+ghost use Rattle.semaphore.specs.Effects.{signalled, acquired, countedOf, statusOf};
 use crate::state::Semaphores;
 use access::vector::Vector;
 use itron::code::E_OK;
@@ -19,6 +19,7 @@ use itron::code::E_QOVR;
 use model::Patience;
 use model::Reply;
 use model::Side;
+use tasks::check::Check;
 use tasks::state::Tasks;
 use tasks::task::Wait;
 use tasks::wait::First;
@@ -66,62 +67,72 @@ impl Semaphores {
 }
 
 // Signal.
-pub fn signal(tasks: Tasks, semaphores: Semaphores, object: usize) -> Effect
-    requires { ⌜ TasksHeld.Held tasks × Held semaphores × (object < length (semsOf semaphores)) ⌝ }
-    ensures { λ r. ⌜ r ≡ effectAs (domainsOf tasks) (Model.signal (waitsOf tasks) (semsOf semaphores) (suc object)) ⌝ }
+pub fn signal(tasks: Tasks, semaphores: Semaphores, check: Check) -> Effect
+    requires { ⌜ TasksHeld.Held tasks × Held semaphores × Passed tasks (length (semsOf semaphores)) check ⌝ }
+    ensures { λ r. ⌜ r ≡ signalled tasks semaphores check ⌝ }
 {
-    match tasks.first(Side::OnSem, object) {
-        First::Waiter(task, _) => {
-            let ended = tasks.wake(task, 0, 0);
-            let reply = ended.reply;
-            let woken = ended.tasks;
-            Effect {
-                reply,
-                tasks: woken,
-                semaphores,
-            }
+    match check {
+        Check::Refused(code) => Effect {
+            reply: Reply::plain(code, 0),
+            tasks,
+            semaphores,
         },
-        First::Nobody => {
-            let counted = semaphores.raise(object);
-            let reply = counted.reply;
-            let raised = counted.semaphores;
-            Effect {
-                reply,
-                tasks,
-                semaphores: raised,
-            }
+        Check::Admitted(_, object) => match tasks.first(Side::OnSem, object) {
+            First::Waiter(waiter, _) => {
+                let ended = tasks.wake(waiter, 0, 0);
+                let reply = ended.reply;
+                let woken = ended.tasks;
+                Effect {
+                    reply,
+                    tasks: woken,
+                    semaphores,
+                }
+            },
+            First::Nobody => {
+                let counted = semaphores.raise(object);
+                let reply = counted.reply;
+                let raised = counted.semaphores;
+                Effect {
+                    reply,
+                    tasks,
+                    semaphores: raised,
+                }
+            },
         },
     }
 }
 
 // Poll and wait.
-pub fn acquire(
-    tasks: Tasks,
-    semaphores: Semaphores,
-    task: usize,
-    object: usize,
-    patience: Patience,
-) -> Effect
-    requires { ⌜ TasksHeld.Held tasks × Held semaphores × Free (domainsOf tasks) (waitsOf tasks) task × (object < length (semsOf semaphores)) ⌝ }
-    ensures { λ r. ⌜ r ≡ effectAs (domainsOf tasks) (Model.acquire (waitsOf tasks) (semsOf semaphores) (suc task) (suc object) patience) ⌝ }
+pub fn acquire(tasks: Tasks, semaphores: Semaphores, check: Check, patience: Patience) -> Effect
+    requires { ⌜ TasksHeld.Held tasks × Held semaphores × Passed tasks (length (semsOf semaphores)) check ⌝ }
+    ensures { λ r. ⌜ r ≡ acquired tasks semaphores patience check ⌝ }
 {
-    let mut semaphore = semaphores.get(object);
-    if 0 < semaphore.count {
-        semaphore.count = semaphore.count - 1;
-        let taken = semaphores.put(object, semaphore);
-        return Effect {
-            reply: Reply::plain(E_OK, 0),
+    match check {
+        Check::Refused(code) => Effect {
+            reply: Reply::plain(code, 0),
             tasks,
-            semaphores: taken,
-        };
-    }
-    let ended = tasks.or_wait(task, Wait::OnSem(object as u8), patience);
-    let reply = ended.reply;
-    let next = ended.tasks;
-    Effect {
-        reply,
-        tasks: next,
-        semaphores,
+            semaphores,
+        },
+        Check::Admitted(task, object) => {
+            let mut semaphore = semaphores.get(object);
+            if 0 < semaphore.count {
+                semaphore.count = semaphore.count - 1;
+                let taken = semaphores.put(object, semaphore);
+                return Effect {
+                    reply: Reply::plain(E_OK, 0),
+                    tasks,
+                    semaphores: taken,
+                };
+            }
+            let ended = tasks.or_wait(task, Wait::OnSem(object as u8), patience);
+            let reply = ended.reply;
+            let next = ended.tasks;
+            Effect {
+                reply,
+                tasks: next,
+                semaphores,
+            }
+        },
     }
 }
 

@@ -169,7 +169,7 @@ impl Tasks {
     }
 
     // The caller waits, if it has the patience.
-    pub fn or_wait(mut self, task: usize, wait: Wait, patience: Patience) -> Ended
+    pub fn or_wait(self, task: usize, wait: Wait, patience: Patience) -> Ended
         requires { ⌜ Held self × Free (domainsOf self) (waitsOf self) task × (isReady wait ≡ false) ⌝ }
         ensures { λ r. ⌜ r ≡ endedOf (domainsOf self) (orWaits {R = ℕ} (waitsOf self) [] patience (waiterOf (suc task) wait)) ⌝ }
     {
@@ -182,16 +182,14 @@ impl Tasks {
                 },
                 tasks: self,
             },
-            Patience::Forever => {
-                self = self.join(task, wait);
-                Ended {
-                    reply: Reply {
-                        outcome: Outcome::Waiting,
-                        word: 0,
-                        released: Released { task: 0, word: 0 },
-                    },
-                    tasks: self,
-                }
+            // Not stored into `self` first: measured, that costs a copy of the tasks more.
+            Patience::Forever => Ended {
+                reply: Reply {
+                    outcome: Outcome::Waiting,
+                    word: 0,
+                    released: Released { task: 0, word: 0 },
+                },
+                tasks: self.join(task, wait),
             },
         }
     }

@@ -13,7 +13,7 @@ use Rattle.model.specs.Calls as Model
 use Rattle.model.specs.Calls.{no, vectorAt}
 use Rattle.tasks.specs.declared.wait.Caller.the-variants as Caller
 use Rattle.model.proofs.Ordinals.{outside, Within, within}
-use Rattle.kernel.specs.declared.check.Check.the-variants.{Admitted}
+use Rattle.tasks.specs.declared.check.Check.the-variants.{Admitted}
 use Rattle.kernel.specs.View.{viewOf}
 use Rattle.kernel.specs.Inside.{callerIn}
 use Rattle.kernel.proofs.Checks.{nobody, check-ctx, check-id, check-noexs, check-oacv, check-admits}

@@ -9,7 +9,8 @@ use Rattle.model.specs.Calls as Model
 use Rattle.model.specs.State.{zeroVector}
 use Rattle.model.specs.declared.Kind.the-variants.{Queue}
 use Rattle.kernel.proofs.Back.{tasks-held, queues-held}
-use Rattle.kernel.proofs.Calls.{checkOf, Admission, admission, queueReport, queue-refused, queue-told}
+use Rattle.kernel.specs.Inside.{checkOf}
+use Rattle.kernel.proofs.Calls.{Admission, admission, queueReport, queue-refused, queue-told}
 use Rattle.kernel.proofs.state.State.ref_dtq.Statement.{statement}
 use Rattle.kernel.proofs.state.State.ref_dtq.Tie as tie
 

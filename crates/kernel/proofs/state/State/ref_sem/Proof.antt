@@ -9,7 +9,8 @@ use Rattle.model.specs.Calls as Model
 use Rattle.model.specs.State.{zeroVector}
 use Rattle.model.specs.declared.Kind.the-variants.{Semaphore}
 use Rattle.kernel.proofs.Back.{tasks-held, sems-held}
-use Rattle.kernel.proofs.Calls.{checkOf, Admission, admission, semaphoreReport, semaphore-refused, semaphore-told}
+use Rattle.kernel.specs.Inside.{checkOf}
+use Rattle.kernel.proofs.Calls.{Admission, admission, semaphoreReport, semaphore-refused, semaphore-told}
 use Rattle.kernel.proofs.state.State.ref_sem.Statement.{statement}
 use Rattle.kernel.proofs.state.State.ref_sem.Tie as tie
 

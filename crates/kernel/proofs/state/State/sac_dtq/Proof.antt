@@ -8,7 +8,8 @@ use Rattle.model.specs.Answers.{plain}
 use Rattle.model.specs.Calls as Model
 use Rattle.model.specs.declared.Kind.the-variants.{Queue}
 use Rattle.kernel.proofs.Back.{queues-held}
-use Rattle.kernel.proofs.Calls.{checkOf, Admission, admission, refuses, sets-queue}
+use Rattle.kernel.specs.Inside.{checkOf}
+use Rattle.kernel.proofs.Calls.{Admission, admission, refuses, sets-queue}
 use Rattle.kernel.proofs.state.State.sac_dtq.Statement.{statement}
 use Rattle.kernel.proofs.state.State.sac_dtq.Tie as tie
 

@@ -8,7 +8,8 @@ use Rattle.model.specs.Answers.{plain}
 use Rattle.model.specs.Calls as Model
 use Rattle.model.specs.declared.Kind.the-variants.{Semaphore}
 use Rattle.kernel.proofs.Back.{sems-held}
-use Rattle.kernel.proofs.Calls.{checkOf, Admission, admission, refuses, sets-semaphore}
+use Rattle.kernel.specs.Inside.{checkOf}
+use Rattle.kernel.proofs.Calls.{Admission, admission, refuses, sets-semaphore}
 use Rattle.kernel.proofs.state.State.sac_sem.Statement.{statement}
 use Rattle.kernel.proofs.state.State.sac_sem.Tie as tie
 

@@ -1,0 +1,27 @@
+-- `State::acquire_effect` meets its contract. Assumes nothing.
+use borrow.Author.Needs.{needs}
+use mathlib.Core.Path.{_≡_, sym, ap, _∙_}
+use mir.Facts.{toZ-ofZ}
+use Rattle.model.specs.Calls as Model
+use Rattle.semaphore.specs.Effects.{acquired}
+use Rattle.kernel.specs.Inside.{checkOf}
+use Rattle.kernel.proofs.Back.{tasks-held, sems-held}
+use Rattle.kernel.proofs.Calls.{passes}
+use Rattle.kernel.proofs.state.State.acquire_effect.Statement.{statement}
+use Rattle.kernel.proofs.state.State.acquire_effect.Tie as tie
+
+check-requires : tie.Need-check-requires
+check-requires c κs = search needs
+
+-- what the checks give
+checks : (c : tie.After-check) → let a = c .before .before .before .args in checkOf (a .self) (a .caller) (Model.acquire (a .patience) (a .id)) ≡ c .check .result
+checks c = let f = c .before .before .before .fits in sym (rw (toZ-ofZ (f .caller), toZ-ofZ (f .id)) at (c .check .ensures))
+
+acquire-requires : tie.Need-acquire-requires
+acquire-requires c κs = let b = c .before .before .before in (tasks-held (b .pre), sems-held (b .pre), passes (b .args .self) (b .args .caller) (Model.acquire (b .args .patience) (b .args .id)) (checks c))
+
+returns : tie.Need-returns
+returns c = let a = c .before .before .before .before .args in c .acquire .ensures ∙ ap (acquired (a .self .tasks) (a .self .semaphores) (a .patience)) (sym (checks (c .before)))
+
+pub acquire-effect-spec : {M : Type 1} → statement M
+acquire-effect-spec = tie.close (tie.spec check-requires acquire-requires returns)
