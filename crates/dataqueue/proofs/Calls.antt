@@ -13,7 +13,6 @@ use Rattle.model.specs.State.{Waiter, place}
 use Rattle.model.specs.Answers.{say, replyOf}
 use Rattle.model.specs.Waits.{waitersIn, leave, orWaits}
 use Rattle.model.specs.Queues.{queueIn, setBuffer, hasRoom, sendBy, send, receiveBy, receive}
-use Rattle.model.specs.declared.Reply.{Reply}
 use Rattle.model.specs.declared.Patience.{Patience}
 use Rattle.model.specs.declared.Patience.the-variants.{Polling, Forever}
 use Rattle.model.specs.declared.Side.the-variants.{Receiving as receiving, Sending as sending}
@@ -30,9 +29,6 @@ use Rattle.dataqueue.specs.View.{queuesOf}
 use Rattle.dataqueue.specs.Form.{queuesAs}
 use Rattle.dataqueue.specs.Held.{Held}
 use Rattle.dataqueue.specs.Effects.{effectAs, doneWith, endedWith}
-
-abbrev pub effect : Reply → Tasks → Queues → Effect
-effect r t q = record { reply = r; tasks = t; queues = q }
 
 -- the task with a number is released with a word, and the caller gets one
 abbrev woken : List ℤ → List Waiter → List Model.Queue → ℕ → ℕ → ℕ → Effect

@@ -24,13 +24,17 @@ use Rattle.dataqueue.specs.Form.{queuesAs}
 abbrev pub effectAs : List ℤ → Model.Effect Queue → Effect
 effectAs ds e = record { reply = replyOf (e .answer); tasks = tasksAs ds (e .waits); queues = queuesAs (e .records) }
 
--- both sends, and both receives: the checks' refusal with everything as it was, or the model's effect
+-- what the checks refuse, with everything as it was
+abbrev pub refusedWith : Tasks → Queues → ℤ → Effect
+refusedWith ts qs code = record { reply = plain code 0; tasks = ts; queues = qs }
+
+-- both sends, and both receives: the checks' refusal, or the model's effect
 abbrev pub sent : Tasks → Queues → ℕ → Patience → Check → Effect
-sent ts qs w p (Refused code) = record { reply = plain code 0; tasks = ts; queues = qs }
+sent ts qs w p (Refused code) = refusedWith ts qs code
 sent ts qs w p (Admitted task object) = effectAs (domainsOf ts) (send (waitsOf ts) (queuesOf qs) (suc task) (suc object) w p)
 
 abbrev pub received : Tasks → Queues → Patience → Check → Effect
-received ts qs p (Refused code) = record { reply = plain code 0; tasks = ts; queues = qs }
+received ts qs p (Refused code) = refusedWith ts qs code
 received ts qs p (Admitted task object) = effectAs (domainsOf ts) (receive (waitsOf ts) (queuesOf qs) (suc task) (suc object) p)
 
 -- E_OK with a word, nobody released

@@ -8,7 +8,7 @@ ghost use Rattle.tasks.specs.Held.{Held as TasksHeld};
 ghost use Rattle.tasks.specs.Checks.{Passed};
 ghost use Rattle.dataqueue.specs.View.{queuesOf};
 ghost use Rattle.dataqueue.specs.Held.{Held};
-ghost use Rattle.dataqueue.specs.Effects.{sent, received, doneWith, endedWith, statusOf};
+ghost use Rattle.dataqueue.specs.Effects.{refusedWith, sent, received, doneWith, endedWith, statusOf};
 use crate::state::Queues;
 use access::vector::Vector;
 use itron::code::E_OK;
@@ -53,6 +53,21 @@ pub(crate) fn done(tasks: Tasks, queues: Queues, word: u32) -> Effect
     }
 }
 
+// What the checks refuse: its code, with everything as it was.
+pub(crate) fn refused(tasks: Tasks, queues: Queues, code: i32) -> Effect
+    ensures { λ r. ⌜ r ≡ refusedWith tasks queues code ⌝ }
+{
+    Effect {
+        reply: Reply {
+            outcome: Outcome::Code(code),
+            word: 0,
+            released: Released { task: 0, word: 0 },
+        },
+        tasks,
+        queues,
+    }
+}
+
 // An end on the tasks, with the queues beside it.
 pub(crate) fn ended(end: Ended, queues: Queues) -> Effect
     ensures { λ r. ⌜ r ≡ endedWith end queues ⌝ }
@@ -72,11 +87,7 @@ pub fn send(tasks: Tasks, queues: Queues, check: Check, word: u32, patience: Pat
     ensures { λ r. ⌜ r ≡ sent tasks queues word patience check ⌝ }
 {
     match check {
-        Check::Refused(code) => Effect {
-            reply: Reply::plain(code, 0),
-            tasks,
-            queues,
-        },
+        Check::Refused(code) => refused(tasks, queues, code),
         Check::Admitted(task, object) => match tasks.first(Side::Receiving, object) {
             First::Waiter(receiver, _) => ended(tasks.wake(receiver, 0, word), queues),
             First::Nobody => {
@@ -99,11 +110,7 @@ pub fn receive(tasks: Tasks, queues: Queues, check: Check, patience: Patience) -
     ensures { λ r. ⌜ r ≡ received tasks queues patience check ⌝ }
 {
     match check {
-        Check::Refused(code) => Effect {
-            reply: Reply::plain(code, 0),
-            tasks,
-            queues,
-        },
+        Check::Refused(code) => refused(tasks, queues, code),
         Check::Admitted(task, object) => {
             let sender = tasks.first(Side::Sending, object);
             if queues.buffered(object) == 0 {

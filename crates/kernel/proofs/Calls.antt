@@ -152,7 +152,7 @@ module _ {s : State} (v : Valid s) (z : ℤ) (op : Op) where
 
   -- a call whose effect on the tasks and the semaphores goes by what the checks found: a refusal, or f of the task and the object
   pub by-semaphores : (does : Check → SemaphoreEffect.Effect) (f : ℕ → ℕ → Answers.Effect Sem)
-      → ((d : ℤ) → does (Refused d) ≡ record { reply = plain d 0; tasks = s .tasks; semaphores = s .semaphores })
+      → ((d : ℤ) → does (Refused d) ≡ SemaphoreEffects.refusedWith (s .tasks) (s .semaphores) d)
       → ((t o : ℕ) → does (Admitted t o) ≡ SemaphoreEffects.effectAs (viewOf s .fixed .domains) (f (suc t) (suc o)))
       → ((t : ℕ) → onSemaphores (viewOf s) (f (suc t) (no (numberIn op))) ≡ act (viewOf s) (suc t) op)
       → {x : SemaphoreEffect.Effect} {r : Answer} → x ≡ does (checkOf s z op) → r ≡ answered (x .reply) (withSemaphores s (x .tasks) (x .semaphores)) → Does s (call z op) r
@@ -164,7 +164,7 @@ module _ {s : State} (v : Valid s) (z : ℤ) (op : Op) where
 
   -- the same of the data queues
   pub by-queues : (does : Check → QueueEffect.Effect) (f : ℕ → ℕ → Answers.Effect Queue)
-      → ((d : ℤ) → does (Refused d) ≡ record { reply = plain d 0; tasks = s .tasks; queues = s .queues })
+      → ((d : ℤ) → does (Refused d) ≡ QueueEffects.refusedWith (s .tasks) (s .queues) d)
       → ((t o : ℕ) → does (Admitted t o) ≡ QueueEffects.effectAs (viewOf s .fixed .domains) (f (suc t) (suc o)))
       → ((t : ℕ) → onQueues (viewOf s) (f (suc t) (no (numberIn op))) ≡ act (viewOf s) (suc t) op)
       → {x : QueueEffect.Effect} {r : Answer} → x ≡ does (checkOf s z op) → r ≡ answered (x .reply) (withQueues s (x .tasks) (x .queues)) → Does s (call z op) r

@@ -23,13 +23,17 @@ use Rattle.semaphore.specs.Form.{semsAs}
 abbrev pub effectAs : List ℤ → Model.Effect Semaphore → Effect
 effectAs ds e = record { reply = replyOf (e .answer); tasks = tasksAs ds (e .waits); semaphores = semsAs (e .records) }
 
--- a signal, and a poll or a wait: the checks' refusal with everything as it was, or the model's effect
+-- what the checks refuse, with everything as it was
+abbrev pub refusedWith : Tasks → Semaphores → ℤ → Effect
+refusedWith ts ss code = record { reply = plain code 0; tasks = ts; semaphores = ss }
+
+-- a signal, and a poll or a wait: the checks' refusal, or the model's effect
 abbrev pub signalled : Tasks → Semaphores → Check → Effect
-signalled ts ss (Refused code) = record { reply = plain code 0; tasks = ts; semaphores = ss }
+signalled ts ss (Refused code) = refusedWith ts ss code
 signalled ts ss (Admitted task object) = effectAs (domainsOf ts) (signal (waitsOf ts) (semsOf ss) (suc object))
 
 abbrev pub acquired : Tasks → Semaphores → Patience → Check → Effect
-acquired ts ss p (Refused code) = record { reply = plain code 0; tasks = ts; semaphores = ss }
+acquired ts ss p (Refused code) = refusedWith ts ss code
 acquired ts ss p (Admitted task object) = effectAs (domainsOf ts) (acquire (waitsOf ts) (semsOf ss) (suc task) (suc object) p)
 
 abbrev pub countedOf : Model.Effect Semaphore → Counted

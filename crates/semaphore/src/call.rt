@@ -11,12 +11,14 @@ ghost use Rattle.tasks.specs.Held as TasksHeld;
 ghost use Rattle.tasks.specs.Checks.{Passed};
 ghost use Rattle.semaphore.specs.View.{semsOf};
 ghost use Rattle.semaphore.specs.Held.{Held};
-ghost use Rattle.semaphore.specs.Effects.{signalled, acquired, countedOf, statusOf};
+ghost use Rattle.semaphore.specs.Effects.{refusedWith, signalled, acquired, countedOf, statusOf};
 use crate::state::Semaphores;
 use access::vector::Vector;
 use itron::code::E_OK;
 use itron::code::E_QOVR;
+use model::Outcome;
 use model::Patience;
+use model::Released;
 use model::Reply;
 use model::Side;
 use tasks::check::Check;
@@ -66,17 +68,28 @@ impl Semaphores {
     }
 }
 
+// What the checks refuse: its code, with everything as it was.
+pub(crate) fn refused(tasks: Tasks, semaphores: Semaphores, code: i32) -> Effect
+    ensures { λ r. ⌜ r ≡ refusedWith tasks semaphores code ⌝ }
+{
+    Effect {
+        reply: Reply {
+            outcome: Outcome::Code(code),
+            word: 0,
+            released: Released { task: 0, word: 0 },
+        },
+        tasks,
+        semaphores,
+    }
+}
+
 // Signal.
 pub fn signal(tasks: Tasks, semaphores: Semaphores, check: Check) -> Effect
     requires { ⌜ TasksHeld.Held tasks × Held semaphores × Passed tasks (length (semsOf semaphores)) check ⌝ }
     ensures { λ r. ⌜ r ≡ signalled tasks semaphores check ⌝ }
 {
     match check {
-        Check::Refused(code) => Effect {
-            reply: Reply::plain(code, 0),
-            tasks,
-            semaphores,
-        },
+        Check::Refused(code) => refused(tasks, semaphores, code),
         Check::Admitted(_, object) => match tasks.first(Side::OnSem, object) {
             First::Waiter(waiter, _) => {
                 let ended = tasks.wake(waiter, 0, 0);
@@ -108,11 +121,7 @@ pub fn acquire(tasks: Tasks, semaphores: Semaphores, check: Check, patience: Pat
     ensures { λ r. ⌜ r ≡ acquired tasks semaphores patience check ⌝ }
 {
     match check {
-        Check::Refused(code) => Effect {
-            reply: Reply::plain(code, 0),
-            tasks,
-            semaphores,
-        },
+        Check::Refused(code) => refused(tasks, semaphores, code),
         Check::Admitted(task, object) => {
             let mut semaphore = semaphores.get(object);
             if 0 < semaphore.count {

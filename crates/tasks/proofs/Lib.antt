@@ -8,4 +8,3 @@ pub mod Waiters
 pub mod Firsts
 pub mod Callers
 pub mod Ends
-pub mod Checks

@@ -10,24 +10,22 @@ use mir.Val.{toZ, ofZ}
 use Rattle.model.specs.State.{place}
 use Rattle.model.specs.Waits.{waitersIn}
 use Rattle.model.specs.Queues.{queueIn}
-use Rattle.model.specs.declared.Reply.{Reply}
 use Rattle.model.specs.declared.Side.the-variants.{Sending}
 use Rattle.tasks.specs.declared.wait.Ended.{Ended}
 use Rattle.tasks.specs.View.{domainsOf, waitsOf}
 use Rattle.tasks.specs.Ends.{wokenOf}
-use Rattle.tasks.proofs.Checks.{refused}
 use Rattle.tasks.proofs.Firsts.{Waits, waits, no-first}
 use Rattle.dataqueue.specs.View.{queuesOf}
-use Rattle.dataqueue.specs.Effects.{received, doneWith, endedWith}
-use Rattle.dataqueue.proofs.Calls.{effect, receive-passes, receive-waits, receives, receive-refills}
+use Rattle.dataqueue.specs.Effects.{refusedWith, received, doneWith, endedWith}
+use Rattle.dataqueue.proofs.Calls.{receive-passes, receive-waits, receives, receive-refills}
 use Rattle.dataqueue.proofs.call.receive.Statement.{statement}
 use Rattle.dataqueue.proofs.call.receive.Tie as tie
 
 enum-known-check : tie.Need-enum-known-check
 enum-known-check c = search needs
 
-plain-requires : tie.Need-plain-requires
-plain-requires c κs = search needs
+refused-requires : tie.Need-refused-requires
+refused-requires c κs = search needs
 
 enum-known-check-2 : tie.Need-enum-known-check-2
 enum-known-check-2 c = search needs
@@ -61,8 +59,8 @@ ended-requires c κs = search needs
 enum-told : tie.Need-enum-told
 enum-told c = search needs
 
-cast-t22 : tie.Need-cast-t22
-cast-t22 c =
+cast-t21 : tie.Need-cast-t21
+cast-t21 c =
     let x = c .before .before .before .before .before .before in
     let n = x .before .before .pre .1 .fit .few in
     let l = there x in
@@ -147,7 +145,7 @@ returns-3 c =
     let a = x .before .before .args in
     let d = x .check .given .0 .0 in
     let e : toZ w32 (ofZ w32 d) ≡ d = search needs in
-    refused (λ (r : Reply). effect r (a .tasks) (a .queues)) e (c .plain .ensures) ∙ ap (received (a .tasks) (a .queues) (a .patience)) (sym (x .check .given .1))
+    c .refused .ensures ∙ ap (refusedWith (a .tasks) (a .queues)) e ∙ ap (received (a .tasks) (a .queues) (a .patience)) (sym (x .check .given .1))
 
 returns-4 : tie.Need-returns-4
 returns-4 c =
@@ -184,7 +182,7 @@ receive-spec =
     tie.close
     (tie.spec
     enum-known-check
-    plain-requires
+    refused-requires
     enum-known-check-2
     first-requires
     buffered-requires
@@ -192,7 +190,7 @@ receive-spec =
     wake-requires
     ended-requires
     enum-told
-    cast-t22 or-wait-requires
+    cast-t21 or-wait-requires
     ended-requires-2
     returns
     returns-2

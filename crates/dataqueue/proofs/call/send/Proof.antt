@@ -11,24 +11,22 @@ use borrow.Author.Tests.{ltb-true}
 use Rattle.model.specs.State.{place}
 use Rattle.model.specs.Waits.{waitersIn}
 use Rattle.model.specs.Queues.{queueIn}
-use Rattle.model.specs.declared.Reply.{Reply}
 use Rattle.model.specs.declared.Side.the-variants.{Receiving}
 use Rattle.tasks.specs.declared.wait.Ended.{Ended}
 use Rattle.tasks.specs.View.{waitsOf}
-use Rattle.tasks.proofs.Checks.{refused}
 use Rattle.tasks.proofs.Firsts.{Waits, waits, no-first}
 use Rattle.dataqueue.specs.declared.state.Queues.{Queues}
 use Rattle.dataqueue.specs.View.{queuesOf}
-use Rattle.dataqueue.specs.Effects.{sent, doneWith, endedWith}
-use Rattle.dataqueue.proofs.Calls.{effect, send-wakes, send-stores, send-waits}
+use Rattle.dataqueue.specs.Effects.{refusedWith, sent, doneWith, endedWith}
+use Rattle.dataqueue.proofs.Calls.{send-wakes, send-stores, send-waits}
 use Rattle.dataqueue.proofs.call.send.Statement.{statement}
 use Rattle.dataqueue.proofs.call.send.Tie as tie
 
 enum-known-check : tie.Need-enum-known-check
 enum-known-check c = search needs
 
-plain-requires : tie.Need-plain-requires
-plain-requires c κs = search needs
+refused-requires : tie.Need-refused-requires
+refused-requires c κs = search needs
 
 enum-known-check-2 : tie.Need-enum-known-check-2
 enum-known-check-2 c = search needs
@@ -75,8 +73,8 @@ push-requires c κs =
 done-requires : tie.Need-done-requires
 done-requires c κs = search needs
 
-cast-t20 : tie.Need-cast-t20
-cast-t20 c =
+cast-t19 : tie.Need-cast-t19
+cast-t19 c =
     let x = c .before .before .before .before .before .before in
     let n = x .before .before .pre .1 .fit .few in
     let l = there x in
@@ -94,7 +92,7 @@ returns c =
     let a = x .before .before .args in
     let d = x .check .given .0 .0 in
     let e : toZ w32 (ofZ w32 d) ≡ d = search needs in
-    refused (λ (r : Reply). effect r (a .tasks) (a .queues)) e (c .plain .ensures) ∙ ap (sent (a .tasks) (a .queues) (a .word) (a .patience)) (sym (x .check .given .1))
+    c .refused .ensures ∙ ap (refusedWith (a .tasks) (a .queues)) e ∙ ap (sent (a .tasks) (a .queues) (a .word) (a .patience)) (sym (x .check .given .1))
 
 returns-2 : tie.Need-returns-2
 returns-2 c =
@@ -131,7 +129,7 @@ send-spec =
     tie.close
     (tie.spec
     enum-known-check
-    plain-requires
+    refused-requires
     enum-known-check-2
     first-requires
     enum-known-receiver
@@ -141,7 +139,7 @@ send-spec =
     has-room-requires
     push-requires
     done-requires
-    cast-t20 or-wait-requires
+    cast-t19 or-wait-requires
     ended-requires-2
     returns
     returns-2

@@ -6,10 +6,8 @@ use mathlib.Core.Path.{_≡_, refl, sym, ap, _∙_}
 use lib.ListN.{length}
 use mir.Syntax.{w32}
 use mir.Val.{toZ, ofZ}
-use Rattle.model.specs.declared.Reply.{Reply}
-use Rattle.tasks.proofs.Checks.{refused}
 use Rattle.semaphore.specs.View.{semsOf}
-use Rattle.semaphore.specs.Effects.{acquired}
+use Rattle.semaphore.specs.Effects.{refusedWith, acquired}
 use Rattle.semaphore.proofs.Back.{count-seen}
 use Rattle.semaphore.proofs.Effects.{effect, acquire-takes, acquire-waits}
 use Rattle.semaphore.proofs.call.acquire.Statement.{statement}
@@ -18,8 +16,8 @@ use Rattle.semaphore.proofs.call.acquire.Tie as tie
 enum-known-check : tie.Need-enum-known-check
 enum-known-check c = search needs
 
-plain-requires : tie.Need-plain-requires
-plain-requires c κs = search needs
+refused-requires : tie.Need-refused-requires
+refused-requires c κs = search needs
 
 enum-known-check-2 : tie.Need-enum-known-check-2
 enum-known-check-2 c = search needs
@@ -37,8 +35,8 @@ sub-semaphore c = search needs
 put-requires : tie.Need-put-requires
 put-requires c κs = let x = c .before .before .before .before .before in (x .before .before .pre .1, there x)
 
-plain-requires-2 : tie.Need-plain-requires-2
-plain-requires-2 c κs = search needs
+plain-requires : tie.Need-plain-requires
+plain-requires c κs = search needs
 
 returns : tie.Need-returns
 returns c =
@@ -47,14 +45,14 @@ returns c =
     let x = g .before .before in
     let b = x .before .before in
     let a = b .args in
-    let p = c .plain2 .ensures in
+    let p = c .plain .ensures in
     let q = c .before .put .ensures in
     (λ i. effect (p i) (a .tasks) (q i))
     ∙ acquire-takes (b .pre .1) (x .check2 .given .0 .1 .0) _ (g .get .ensures) (b .pre .0) (x .check2 .given .0 .0) (a .patience) (t .if1 .taken)
     ∙ ap (acquired (a .tasks) (a .semaphores) (a .patience)) (sym (x .check2 .given .1))
 
-cast-t17 : tie.Need-cast-t17
-cast-t17 c =
+cast-t16 : tie.Need-cast-t16
+cast-t16 c =
     let x = c .before .before .before .before in
     let n = count-seen (x .before .before .pre .1) in
     let l = there x in
@@ -69,7 +67,7 @@ returns-2 c =
     let a = x .before .before .args in
     let d = x .check .given .0 .0 in
     let e : toZ w32 (ofZ w32 d) ≡ d = search needs in
-    refused (λ (r : Reply). effect r (a .tasks) (a .semaphores)) e (c .plain .ensures) ∙ ap (acquired (a .tasks) (a .semaphores) (a .patience)) (sym (x .check .given .1))
+    c .refused .ensures ∙ ap (refusedWith (a .tasks) (a .semaphores)) e ∙ ap (acquired (a .tasks) (a .semaphores) (a .patience)) (sym (x .check .given .1))
 
 returns-3 : tie.Need-returns-3
 returns-3 c =
@@ -86,13 +84,13 @@ acquire-spec =
     tie.close
     (tie.spec
     enum-known-check
-    plain-requires
+    refused-requires
     enum-known-check-2
     get-requires
     sub-semaphore
     put-requires
-    plain-requires-2
+    plain-requires
     returns
-    cast-t17 or-wait-requires
+    cast-t16 or-wait-requires
     returns-2
     returns-3)

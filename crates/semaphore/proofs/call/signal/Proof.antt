@@ -10,19 +10,17 @@ use Rattle.model.specs.Waits.{waitersIn}
 use Rattle.model.specs.declared.Side.the-variants.{OnSem as onSem}
 use Rattle.tasks.specs.View.{waitsOf}
 use Rattle.tasks.proofs.Firsts.{Waits, waits, no-first}
-use Rattle.model.specs.declared.Reply.{Reply}
-use Rattle.tasks.proofs.Checks.{refused}
 use Rattle.semaphore.specs.View.{semsOf}
-use Rattle.semaphore.specs.Effects.{signalled}
-use Rattle.semaphore.proofs.Effects.{effect, signal-wakes, signal-raises}
+use Rattle.semaphore.specs.Effects.{refusedWith, signalled}
+use Rattle.semaphore.proofs.Effects.{signal-wakes, signal-raises}
 use Rattle.semaphore.proofs.call.signal.Statement.{statement}
 use Rattle.semaphore.proofs.call.signal.Tie as tie
 
 enum-known-check : tie.Need-enum-known-check
 enum-known-check c = search needs
 
-plain-requires : tie.Need-plain-requires
-plain-requires c κs = search needs
+refused-requires : tie.Need-refused-requires
+refused-requires c κs = search needs
 
 enum-known-check-2 : tie.Need-enum-known-check-2
 enum-known-check-2 c = search needs
@@ -56,7 +54,7 @@ returns c =
     let a = x .before .before .args in
     let d = x .check .given .0 .0 in
     let e : toZ w32 (ofZ w32 d) ≡ d = search needs in
-    refused (λ (r : Reply). effect r (a .tasks) (a .semaphores)) e (c .plain .ensures) ∙ ap (signalled (a .tasks) (a .semaphores)) (sym (x .check .given .1))
+    c .refused .ensures ∙ ap (refusedWith (a .tasks) (a .semaphores)) e ∙ ap (signalled (a .tasks) (a .semaphores)) (sym (x .check .given .1))
 
 returns-2 : tie.Need-returns-2
 returns-2 c =
@@ -80,7 +78,7 @@ signal-spec =
     tie.close
     (tie.spec
     enum-known-check
-    plain-requires
+    refused-requires
     enum-known-check-2
     first-requires
     enum-known-waiter
