@@ -1,4 +1,4 @@
-//! The bench runs of document 01, on the ordinary kernel.
+//! The bench runs of document 01, with the limits of request T-07, on the ordinary kernel.
 
 use crate::plain::*;
 use crate::plain_runs::bench_table;
@@ -44,13 +44,16 @@ fn table_and_numbers() {
     assert_eq!([k.fresh(32), k.fresh(33), k.add_task(1)], [Ok(()), Err(E_PAR), Err(E_ID)]);
     assert_eq!(k.add_semaphore(TDOM_NONE, 0, 0, 65_535, None), Ok(()));
     assert_eq!([(0, 65_536), (2, 1)].map(|(start, max)| k.add_semaphore(-1, 0, start, max, None)), [Err(E_PAR); 2]);
-    assert_eq!([64; 8].map(|capacity| k.add_queue(TDOM_KERNEL, 0, capacity, None)), [Ok(()); 8]);
-    assert_eq!([1, 0].map(|capacity| k.add_queue(TDOM_KERNEL, 0, capacity, None)), [Err(E_NOMEM), Ok(())]);
+    assert_eq!([256; 8].map(|capacity| k.add_queue(TDOM_KERNEL, 0, capacity, None)), [Ok(()); 8]);
+    assert_eq!(
+        [257, 1, 0].map(|capacity| k.add_queue(TDOM_KERNEL, 0, capacity, None)),
+        [Err(E_PAR), Err(E_NOMEM), Ok(())]
+    );
     assert_eq!([k.close(), k.close(), k.add_task(TDOM_KERNEL)], [Ok(()), Err(E_CTX), Err(E_CTX)]);
     let mut k = Kernel::EMPTY;
     bench_table(&mut k);
-    assert_eq!([-1, 0, 33].map(|id| k.sig_sem(1, id)), [Err(E_ID); 3]);
-    assert_eq!([(1, 2), (1, 32), (3, 2), (3, 32)].map(|(task, id)| k.sig_sem(task, id)), [Err(E_NOEXS); 4]);
+    assert_eq!([-1, 0, 65].map(|id| k.sig_sem(1, id)), [Err(E_ID); 3]);
+    assert_eq!([(1, 2), (1, 33), (3, 2), (3, 64)].map(|(task, id)| k.sig_sem(task, id)), [Err(E_NOEXS); 4]);
 }
 
 #[test]

@@ -94,7 +94,8 @@ fn entry(random: &mut Random, kernel: &mut Kernel, script: &mut Script, top: &mu
             script.add(format!("sem {domain} {atr} {start} {max}{given}"), answer);
         }
         2 => {
-            let capacity = random.pick(&[0, 0, 1, 2, MAX_QUEUE_CAPACITY, MAX_QUEUE_CAPACITY, MAX_QUEUE_CAPACITY, MAX_QUEUE_CAPACITY, MAX_QUEUE_CAPACITY + 1]);
+            let most = MAX_QUEUE_CAPACITY;
+            let capacity = random.pick(&[0, 0, 1, 2, most, most, most, most, most + 1]);
             let answer = code(kernel.add_queue(domain, atr, capacity, vector));
             script.add(format!("dtq {domain} {atr} {capacity}{given}"), answer);
         }

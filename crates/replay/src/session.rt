@@ -1,5 +1,6 @@
 // A run over standard input: bytes come in by blocks, each whole line is made, and the output goes out before the program reads on.
 ghost use Prim.Native.Nat.{_≤_};
+ghost use Rattle.command.specs.Lines.{lineSize};
 ghost use Rattle.kernel.specs.Valid.{Valid};
 use crate::output::flush;
 use crate::output::with_room;
@@ -29,7 +30,7 @@ pub struct Session {
 }
 
 fn put_echo(out: &mut [u8; BLOCK], at: usize, echo: Text) -> usize
-    requires { ⌜ echo .count ≤ 256 ⌝ }
+    requires { ⌜ echo .count ≤ lineSize ⌝ }
 {
     let bytes = echo.bytes;
     let count = echo.count;

@@ -4,7 +4,7 @@ use itron::limit::MAX_TASKS;
 use text::sign::magnitude;
 
 // An echo with its answer, or a line of a dump without its lists, is shorter.
-const PLAIN_LINE: usize = 512;
+const PLAIN_LINE: usize = 400;
 
 // A comma and a word of ten digits.
 const LISTED_WORD: usize = 11;

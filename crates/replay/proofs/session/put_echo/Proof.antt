@@ -1,19 +1,20 @@
--- `replay::session::put_echo` is safe: the echo lies within its 256 bytes. Assumes nothing.
+-- `replay::session::put_echo` is safe: the echo lies within its bytes. Assumes nothing.
 use borrow.Author.Needs.{needs}
 use mathlib.Core.Path.{_≡_, sym}
 use native.Mathlib.Omega.{arith}
 use lib.ListN.{length}
 use lib.Seq.{length-take-le}
+use Rattle.command.specs.Lines.{lineSize}
 use Rattle.replay.proofs.session.put_echo.Statement.{statement}
 use Rattle.replay.proofs.session.put_echo.Tie as tie
 
 array-share-prefix-bytes : tie.Need-array-share-prefix-bytes
-array-share-prefix-bytes c = let l : length (c .before .before .args .echo .bytes) ≡ 256 = search needs in omega arith
+array-share-prefix-bytes c = let l : length (c .before .before .args .echo .bytes) ≡ lineSize = search needs in omega arith
 
 slice-aggregate-put : tie.Need-slice-aggregate-put
 slice-aggregate-put c =
     let e = c .before .before .before .args .echo in
-    let l : length (e .bytes) ≡ 256 = search needs in
+    let l : length (e .bytes) ≡ lineSize = search needs in
     sym (length-take-le (e .count) (e .bytes) (omega arith))
 
 put-requires : tie.Need-put-requires
