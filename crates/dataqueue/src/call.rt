@@ -12,9 +12,7 @@ ghost use Rattle.dataqueue.specs.Effects.{refusedWith, sent, received, d
 use crate::state::Queues;
 use access::vector::Vector;
 use itron::code::E_OK;
-use model::Outcome;
 use model::Patience;
-use model::Released;
 use model::Reply;
 use model::Side;
 use tasks::check::Check;
@@ -43,11 +41,7 @@ pub(crate) fn done(tasks: Tasks, queues: Queues, word: u32) -> Effect
     ensures { λ r. ⌜ r ≡ doneWith tasks queues word ⌝ }
 {
     Effect {
-        reply: Reply {
-            outcome: Outcome::Code(E_OK),
-            word,
-            released: Released { task: 0, word: 0 },
-        },
+        reply: Reply::plain(E_OK, word),
         tasks,
         queues,
     }
@@ -58,11 +52,7 @@ pub(crate) fn refused(tasks: Tasks, queues: Queues, code: i32) -> Effect
     ensures { λ r. ⌜ r ≡ refusedWith tasks queues code ⌝ }
 {
     Effect {
-        reply: Reply {
-            outcome: Outcome::Code(code),
-            word: 0,
-            released: Released { task: 0, word: 0 },
-        },
+        reply: Reply::plain(code, 0),
         tasks,
         queues,
     }

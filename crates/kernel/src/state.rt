@@ -39,7 +39,7 @@ pub struct Entered {
 }
 
 impl State {
-    // An answer that changes nothing.
+    // The answer that a reply makes with this state.
     pub(crate) fn answer(self, reply: Reply) -> Answer
         ensures { λ r. ⌜ r ≡ answered reply self ⌝ }
     {

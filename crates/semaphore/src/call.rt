@@ -16,9 +16,7 @@ use crate::state::Semaphores;
 use access::vector::Vector;
 use itron::code::E_OK;
 use itron::code::E_QOVR;
-use model::Outcome;
 use model::Patience;
-use model::Released;
 use model::Reply;
 use model::Side;
 use tasks::check::Check;
@@ -73,11 +71,7 @@ pub(crate) fn refused(tasks: Tasks, semaphores: Semaphores, code: i32) -> Effect
     ensures { λ r. ⌜ r ≡ refusedWith tasks semaphores code ⌝ }
 {
     Effect {
-        reply: Reply {
-            outcome: Outcome::Code(code),
-            word: 0,
-            released: Released { task: 0, word: 0 },
-        },
+        reply: Reply::plain(code, 0),
         tasks,
         semaphores,
     }
