@@ -157,7 +157,7 @@ fn random_script(random: &mut Random) -> Script {
     for domain in [1, 2, TDOM_KERNEL, 1, 1, 2] {
         script.add(format!("task {domain}"), code(kernel.add_task(domain)));
     }
-    // The largest number fills every kind up.
+    // The largest number fills tasks, semaphores and queues up; regions run out of addresses first.
     for _ in 0..random.pick(&[8, 20, 90, 1_500]) {
         entry(random, &mut kernel, &mut script, &mut top);
     }
