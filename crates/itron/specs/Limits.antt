@@ -1,5 +1,5 @@
 -- The limits of documents 01 and 02, each written once. Definitions only.
-use Prim.Native.Nat.{ℕ}
+use Prim.Native.Nat.{ℕ, _^_}
 use Rattle.itron.specs.declared.limit.Limits.{Limits}
 
 -- user domains; also the bits of a pattern
@@ -34,6 +34,13 @@ maxCount = 65535
 abbrev pub addressEnd : ℕ
 addressEnd = 4294967296
 
+-- a protection unit is a power of two, from 1 up to 2 to this power
+abbrev pub minUnit : ℕ
+minUnit = 1
+
+abbrev pub maxUnitPower : ℕ
+maxUnitPower = 16
+
 -- all of them: what the program's numbers are tied to
 abbrev pub limits : Limits
-limits = record { domains = maxDomains; tasks = maxTasks; semaphores = maxSemaphores; queues = maxQueues; regions = maxRegions; words = maxWords; capacity = maxCapacity; count = maxCount; addresses = addressEnd }
+limits = record { domains = maxDomains; tasks = maxTasks; semaphores = maxSemaphores; queues = maxQueues; regions = maxRegions; words = maxWords; capacity = maxCapacity; count = maxCount; addresses = addressEnd; finest = minUnit; coarsest = 2 ^ maxUnitPower }

@@ -1,4 +1,4 @@
-// The limits of documents 01 and 02 ("What the core holds", "Building the table"; request T-07), each written once.
+// The limits of documents 01 and 02 ("What the core holds", "Building the table"; requests T-06 and T-07), each written once.
 ghost use mathlib.Core.Path.{_≡_};
 ghost use Rattle.itron.specs.Limits as Specified;
 
@@ -25,6 +25,12 @@ pub const MAX_COUNT: u32 = 65_535;
 // The first number that is no address.
 pub const ADDRESS_END: u64 = 4_294_967_296;
 
+// The finest protection unit: every number is a multiple of it.
+pub const MIN_UNIT: u32 = 1;
+
+// The coarsest.
+pub const MAX_UNIT: u32 = 65_536;
+
 // All of them, for whoever has to know how large a table can be.
 pub struct Limits {
     pub domains: usize,
@@ -36,6 +42,8 @@ pub struct Limits {
     pub capacity: u32,
     pub count: u32,
     pub addresses: u64,
+    pub finest: u32,
+    pub coarsest: u32,
 }
 
 impl Limits {
@@ -53,6 +61,8 @@ impl Limits {
             capacity: MAX_CAPACITY,
             count: MAX_COUNT,
             addresses: ADDRESS_END,
+            finest: MIN_UNIT,
+            coarsest: MAX_UNIT,
         }
     }
 }

@@ -1,5 +1,6 @@
 -- View and form belong together, and every operation keeps the condition. Assumes nothing.
 use mathlib.Core.Path.{_≡_, sym, ap, _∙_, subst}
+use Prim.Native.Nat.{ℕ}
 use lib.IntN.{ℤ}
 use Rattle.itron.specs.Codes.{Err, error}
 use Rattle.model.specs.State as Model
@@ -38,8 +39,9 @@ back m f =
     let w = TasksBack.back-waits (m .fixed .domains) (m .waits) (f .waits) in
     let x = SemsBack.back-sems (m .sems) in
     let q = QueuesBack.back-queues (m .queues) (f .queues) in
-    let r = RegionsBack.back-regions (m .fixed .regions) in
-    λ i. record { fixed = record { closed = m .fixed .closed; count = m .fixed .count; domains = d i; regions = r i }; waits = w i; sems = x i; queues = q i }
+    let u = RegionsBack.back-unit (m .fixed .unit) (m .fixed .regions) in
+    let r = RegionsBack.back-regions (m .fixed .unit) (m .fixed .regions) in
+    λ i. record { fixed = record { closed = m .fixed .closed; count = m .fixed .count; unit = u i; domains = d i; regions = r i }; waits = w i; sems = x i; queues = q i }
 
 pub valid-form : (m : Model.State) → Sound m → Valid (stateOf m)
 valid-form m k =
@@ -62,7 +64,7 @@ module _ {s : State} (v : Valid s) where
   queues-held = subst (λ (t : Queues). QueuesHeld.Held t) (sym (ap (λ (x : State). x .queues) (v .form))) (QueuesBack.held-as (viewOf s .queues) (v .sound .fit .queues))
 
   pub regions-held : RegionsHeld.Held (s .regions)
-  regions-held = subst (λ (t : Regions). RegionsHeld.Held t) (sym (ap (λ (x : State). x .regions) (v .form))) (RegionsBack.held-as (viewOf s .fixed .regions) (v .sound .fit .regions))
+  regions-held = subst (λ (t : Regions). RegionsHeld.Held t) (sym (ap (λ (x : State). x .regions) (v .form))) (RegionsBack.held-as (viewOf s .fixed .unit) (viewOf s .fixed .regions) (v .sound .unit .power) (v .sound .fit .regions))
 
 -- ---- the whole promise from the one equation
 module _ {s : State} (v : Valid s) where
@@ -94,9 +96,9 @@ module _ {s : State} (v : Valid s) where
   pub enters-close : {r : Entered} → r ≡ enteredOf (close (viewOf s)) → Enters s (close (viewOf s)) r
   enters-close e = enters (close (viewOf s)) (sound-close (viewOf s) (v .sound)) (λ x h. close-kept (viewOf s) x h) e
 
-pub begins : (n : ℤ) {r : Entered} → r ≡ enteredOf (fresh n) → Begins n r
-begins n {r} e =
-    let o = fresh n in
-    let k = sound-fresh n in
+pub begins : (n : ℤ) (unit : ℕ) {r : Entered} → r ≡ enteredOf (fresh n unit) → Begins n unit r
+begins n unit {r} e =
+    let o = fresh n unit in
+    let k = sound-fresh n unit in
     let a : r .state ≡ stateOf (o .state) = ap (λ (x : Entered). x .state) e in
     record { same = e; seen = ap viewOf a ∙ back (o .state) (k .fit); valid = subst (λ (x : State). Valid x) (sym a) (valid-form (o .state) k) }

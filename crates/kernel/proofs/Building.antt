@@ -2,24 +2,24 @@
 use Prim.Native.Nat.{ℕ, zero, suc, _+_, _-_, _≤_, _<_}
 use native.Mathlib.Omega.{arith}
 use mathlib.Core.Path.{_≡_, refl, sym, ap, _∙_}
-use mathlib.Core.Bool.{Bool, true, false, not, _&&_, and-true, and-false}
+use mathlib.Core.Bool.{Bool, true, false, not, _&&_, _||_, and-true, and-false}
 use mathlib.Core.List.{[], _∷_, _++_}
 use mathlib.Core.Option.{Option, none, some}
 use lib.Dec.{eqb, leb}
 use lib.IntN.{ℤ, pos, negsuc}
 use lib.ListN.{length}
-use borrow.Author.Tests.{le-leb, lt-leb}
-use borrow.Author.Tests.{ltb-true, leb-true}
+use borrow.Author.Tests.{ltb-true, leb-true, ne-eqb}
 use Rattle.access.specs.Patterns.{pick, ordinalOf}
 use Rattle.access.specs.declared.vector.Choice.{Choice}
-use Rattle.access.proofs.Ordinals.{ordinal-user, ordinal-none}
 use Rattle.itron.specs.Codes.{Err, eRsatr, ePar, eId, eCtx, eMacv, eOacv, eNomem, eNoid, eObj, eNoexs, eQovr, eTmout, numberOf, okNumber}
-use Rattle.itron.specs.Limits.{maxDomains, maxTasks, maxSemaphores, maxQueues, maxRegions, maxWords}
+use Rattle.itron.specs.Limits.{maxDomains, maxTasks, maxSemaphores, maxQueues, maxRegions, maxWords, minUnit}
 use Rattle.model.specs.State as Model
 use Rattle.model.specs.Answers.{resultOf, refuseIf}
 use Rattle.model.specs.Queues.{wordsUsed}
+use Rattle.model.specs.Units.{unitOk}
 use Rattle.model.specs.Regions.{judge}
 use Rattle.model.specs.Verdict.{verdict}
+use Rattle.model.proofs.Lists.{and-left, no-both}
 use Rattle.model.proofs.Table.{taken}
 use Rattle.model.specs.Table.{Entry, task, sem, queue, region, owns, ownsTask, checkEntry, newSem, newQueue, newRegion, add, enterBy, enter, emptyState, fresh, closeBy, close}
 use Rattle.tasks.specs.declared.state.Tasks.{Tasks}
@@ -95,20 +95,34 @@ owns-other n (negsuc (suc zero)) h = absurd (h refl)
 owns-other n (negsuc (suc (suc k))) h = refl
 
 -- ---- fresh
-pub fresh-zero : (z : ℤ) → z ≡ pos 0 → entered okNumber (stateOf (emptyState 0)) ≡ enteredOf (fresh z)
-unfolding fresh
-fresh-zero z h = rw h
+-- n is from 0 to 32 if it is 0 or the number of a user domain
+abbrev pub counted : ℤ → Bool
+counted (pos n) = leb n maxDomains
+counted (negsuc k) = false
 
-pub fresh-none : (z : ℤ) → (z ≡ pos 0 → ⊥) → ordinalOf z maxDomains ≡ 0 → entered (numberOf ePar) (stateOf (emptyState 0)) ≡ enteredOf (fresh z)
-unfolding fresh
-fresh-none (negsuc k) h e = refl
-fresh-none (pos zero) h e = absurd (h refl)
-fresh-none (pos (suc k)) h e = rw (lt-leb (suc k) maxDomains (omega (arith, ordinal-none k maxDomains e)))
+counted-user : (z : ℤ) → (z ≡ pos 0 → ⊥) → not (eqb (ordinalOf z maxDomains) 0) ≡ counted z
+unfolding ordinalOf
+counted-user (negsuc k) h = refl
+counted-user (pos zero) h = absurd (h refl)
+counted-user (pos (suc k)) h = go (leb (suc k) maxDomains)
+  where
+    go : (b : Bool) → not (eqb (pick b (suc k) 0) 0) ≡ b
+    go true = ap not (ne-eqb (suc k) 0 (λ e. omega arith))
+    go false = refl
 
-pub fresh-some : (z : ℤ) (d : ℕ) → d ≡ ordinalOf z maxDomains → (d ≡ 0 → ⊥) → entered okNumber (stateOf (emptyState d)) ≡ enteredOf (fresh z)
+pub counted-by : (z : ℤ) (b : Bool) → (b ≡ true → z ≡ pos 0) → (b ≡ false → z ≡ pos 0 → ⊥) → b || not (eqb (ordinalOf z maxDomains) 0) ≡ counted z
+counted-by z true f g = rw (f refl)
+counted-by z false f g = counted-user z (g refl)
+
+pub fresh-refused : (z : ℤ) (unit : ℕ) → counted z && unitOk unit ≡ false → entered (numberOf ePar) (stateOf (emptyState 0 minUnit)) ≡ enteredOf (fresh z unit)
 unfolding fresh
-fresh-some z zero e h = absurd (h refl)
-fresh-some z (suc k) e h = let u = ordinal-user z maxDomains k (sym e) in rw (u .0, le-leb (suc k) maxDomains (omega (arith, u .1)))
+fresh-refused (pos n) unit h = rw h
+fresh-refused (negsuc k) unit h = refl
+
+pub fresh-taken : (z : ℤ) (unit : ℕ) → counted z && unitOk unit ≡ true → entered okNumber (stateOf (emptyState (ordinalOf z maxDomains) unit)) ≡ enteredOf (fresh z unit)
+unfolding fresh ordinalOf
+fresh-taken (pos n) unit h = rw (h, and-left (leb n maxDomains) (unitOk unit) h)
+fresh-taken (negsuc k) unit h = absurd (no-both h refl)
 
 -- ---- entries and closing
 module _ {s : State} (v : Valid s) where
@@ -142,7 +156,7 @@ module _ {s : State} (v : Valid s) where
       let f = v .form in
       entry-taken (queue d a n c) h _ (λ i. record { domains = s .domains; closed = s .closed; tasks = f i .tasks; semaphores = f i .semaphores; queues = e i; regions = f i .regions })
 
-  pub region-taken : (d : ℤ) (a b z : ℕ) (c : Choice) → checkEntry (viewOf s) (region d a b z c) ≡ none → (x : Regions) → x ≡ regionsAs (viewOf s .fixed .regions ++ (newRegion d a b z c ∷ []))
+  pub region-taken : (d : ℤ) (a b z : ℕ) (c : Choice) → checkEntry (viewOf s) (region d a b z c) ≡ none → (x : Regions) → x ≡ regionsAs (viewOf s .fixed .unit) (viewOf s .fixed .regions ++ (newRegion d a b z c ∷ []))
       → entered okNumber (record { domains = s .domains; closed = s .closed; tasks = s .tasks; semaphores = s .semaphores; queues = s .queues; regions = x }) ≡ enteredOf (enter (viewOf s) (region d a b z c))
   region-taken d a b z c h x e =
       let f = v .form in

@@ -33,4 +33,4 @@ queueReportOf o = record { code = codeOf (o .answer .code); sender = o .answer .
 
 -- ---- how large a table is
 abbrev pub summaryOf : Model.State → Summary
-summaryOf m = record { domains = m .fixed .count; closed = m .fixed .closed; tasks = length (m .fixed .domains); semaphores = length (m .sems); queues = length (m .queues); regions = length (m .fixed .regions) }
+summaryOf m = record { domains = m .fixed .count; unit = m .fixed .unit; closed = m .fixed .closed; tasks = length (m .fixed .domains); semaphores = length (m .sems); queues = length (m .queues); regions = length (m .fixed .regions) }

@@ -14,5 +14,5 @@ stateOf m =
       tasks = tasksAs (m .fixed .domains) (m .waits);
       semaphores = semsAs (m .sems);
       queues = queuesAs (m .queues);
-      regions = regionsAs (m .fixed .regions);
+      regions = regionsAs (m .fixed .unit) (m .fixed .regions);
     }

@@ -1,5 +1,6 @@
 -- What each operation promises, whatever goes in: the whole answer with the complete state, refusals too. Definitions only.
 use mathlib.Core.Path.{_≡_}
+use Prim.Native.Nat.{ℕ}
 use lib.IntN.{ℤ}
 use Rattle.itron.specs.Codes.{Err, error}
 use Rattle.model.specs.Answers.{Out}
@@ -37,10 +38,10 @@ pub record TellsQueue (s : State) (c : Call) (r : QueueReport) : Type 0 where
   pub valid : Valid (r .state)
   pub kept : r .state ≡ s
 
--- a fresh state for n user domains
-pub record Begins (n : ℤ) (r : Entered) : Type 0 where
-  pub same : r ≡ enteredOf (fresh n)
-  pub seen : viewOf (r .state) ≡ fresh n .state
+-- a fresh state for n user domains and a protection unit
+pub record Begins (n : ℤ) (unit : ℕ) (r : Entered) : Type 0 where
+  pub same : r ≡ enteredOf (fresh n unit)
+  pub seen : viewOf (r .state) ≡ fresh n unit .state
   pub valid : Valid (r .state)
 
 -- an entry or closing, to which the model answers o

@@ -9,7 +9,7 @@ use Rattle.kernel.specs.declared.state.State.{State}
 abbrev pub viewOf : State → Model.State
 viewOf s =
     record {
-      fixed = record { closed = s .closed; count = s .domains; domains = domainsOf (s .tasks); regions = regionsOf (s .regions) };
+      fixed = record { closed = s .closed; count = s .domains; unit = s .regions .unit; domains = domainsOf (s .tasks); regions = regionsOf (s .regions) };
       waits = waitsOf (s .tasks);
       sems = semsOf (s .semaphores);
       queues = queuesOf (s .queues);

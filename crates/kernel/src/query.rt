@@ -18,9 +18,10 @@ use model::Side;
 use regions::state::RegionInfo;
 use tasks::task::Task;
 
-// How large the table is: the number n of user domains, whether it is closed, and its entries by kind.
+// How large the table is: the number n of user domains, the protection unit, whether it is closed, and its entries by kind.
 pub struct Summary {
     pub domains: usize,
+    pub unit: u32,
     pub closed: bool,
     pub tasks: usize,
     pub semaphores: usize,
@@ -39,6 +40,7 @@ impl State {
         let regions = self.regions;
         Summary {
             domains: self.domains,
+            unit: regions.unit(),
             closed: self.closed,
             tasks: tasks.len(),
             semaphores: semaphores.len(),

@@ -25,9 +25,11 @@ use itron::limit::MAX_QUEUES;
 use itron::limit::MAX_REGIONS;
 use itron::limit::MAX_SEMAPHORES;
 use itron::limit::MAX_TASKS;
+use itron::limit::MIN_UNIT;
 use model::Semaphore;
 use regions::entry::RegionEntry;
 use regions::state::Regions;
+use regions::unit::is_unit;
 use semaphore::entry;
 use semaphore::entry::SemaphoreEntry;
 use semaphore::state::Semaphores;
@@ -35,8 +37,8 @@ use tasks::state::Tasks;
 
 impl State {
     // The open table with no entry.
-    pub(crate) fn empty(domains: usize) -> State
-        ensures { λ r. ⌜ r ≡ stateOf (emptyState domains) ⌝ }
+    pub(crate) fn empty(domains: usize, unit: u32) -> State
+        ensures { λ r. ⌜ r ≡ stateOf (emptyState domains unit) ⌝ }
     {
         State {
             domains,
@@ -44,22 +46,20 @@ impl State {
             tasks: Tasks::empty(),
             semaphores: Semaphores::empty(),
             queues: Queues::empty(),
-            regions: Regions::empty(),
+            regions: Regions::empty(unit),
         }
     }
 
-    // A fresh state for n user domains.
-    pub fn fresh(n: i32) -> Entered
-        ensures { λ r. ⌜ Begins n r ⌝ }
+    // A fresh state for n user domains and a protection unit.
+    pub fn fresh(n: i32, unit: u32) -> Entered
+        ensures { λ r. ⌜ Begins n unit r ⌝ }
     {
-        if n == 0 {
-            return State::empty(0).enter(E_OK);
-        }
         let domains = ordinal(n, MAX_DOMAINS);
-        if domains == 0 {
-            return State::empty(0).enter(E_PAR);
+        let counted = (n == 0) | (domains != 0);
+        if !(counted & is_unit(unit)) {
+            return State::empty(0, MIN_UNIT).enter(E_PAR);
         }
-        State::empty(domains).enter(E_OK)
+        State::empty(domains, unit).enter(E_OK)
     }
 
     // Whether a task may belong to a domain, and whether the verdict may be asked for it: the kernel's, or 1 to n.

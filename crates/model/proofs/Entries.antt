@@ -1,12 +1,13 @@
 -- Building the table (document 01): which entry is taken and which code another gets, and what an entry or the closing changes. Plain facts only.
 use mathlib.Core.Path.{_≡_, refl, sym, ap, _∙_, subst}
 use mathlib.Core.Logic.{_≢_, _⊎_}
-use mathlib.Core.Bool.{Bool, true, false, not}
+use mathlib.Core.Bool.{Bool, true, false, not, _&&_}
 use mathlib.Core.List.{List, [], _∷_, _++_}
 use mathlib.Core.Option.{Option, none, some}
-use Prim.Native.Nat.{ℕ, zero, suc, _+_, _≤_, _<_}
+use Prim.Native.Nat.{ℕ, zero, suc, _+_, _≤_, _<_, _∣_}
 use native.Mathlib.Omega.{arith}
 use native.Mathlib.Numerals.{add-one}
+use lib.Dec.{leb}
 use lib.ListN.{length, length-append}
 use lib.IntN.{ℤ, pos, negsuc}
 use Rattle.access.specs.Vectors.{resolved}
@@ -18,8 +19,10 @@ use Rattle.model.specs.State.{Sem, Queue, Region, State, noSem, noQueue,
 use Rattle.model.specs.Answers.{Out, refuseIf}
 use Rattle.model.specs.Queues.{wordsUsed}
 use Rattle.model.specs.Regions.{lastEnd}
+use Rattle.model.specs.Units.{unitOk}
 use Rattle.model.specs.Table.{Entry, task, sem, queue, region, hasRoom, owns, ownsTask, domainOk, attributeOk, numbersOk, placeOk, memoryOk, checkEntry, enterBy, enter, freshBy, fresh, closeBy, close}
 use Rattle.model.proofs.Tests.{Tells, holds, fails, le-tells, lt-tells, eq-tells, always-tells, never-tells, and-tells, or-tells, not-tells, passes-on, stops-at}
+use Rattle.model.proofs.Units.{IsUnit, unit-tells, region-numbers-tells}
 
 -- ---- what the checks ask
 -- "kind full"
@@ -54,12 +57,12 @@ Attribute (sem d a b m v) = a ≡ 0
 Attribute (queue d a c v) = a ≡ 0
 Attribute (region d a b z v) = (((a ≡ 0) ⊎ (a ≡ 1)) ⊎ (a ≡ 4)) ⊎ (a ≡ 5)
 
--- "1 <= max <= 65,535 and 0 <= start <= max"; a queue's capacity within its limit; "region size at least 1 and base + size at most 2^32"
-abbrev pub Numbers : Entry → Type 0
-Numbers (task d) = Unit
-Numbers (sem d a b m v) = ((1 ≤ m) × (m ≤ maxCount)) × (b ≤ m)
-Numbers (queue d a c v) = c ≤ maxCapacity
-Numbers (region d a b z v) = (1 ≤ z) × (b + z ≤ addressEnd)
+-- "1 <= max <= 65,535 and 0 <= start <= max"; a queue's capacity within its limit; "region size at least 1 and base + size at most 2^32", both multiples of the unit
+abbrev pub Numbers : State → Entry → Type 0
+Numbers s (task d) = Unit
+Numbers s (sem d a b m v) = ((1 ≤ m) × (m ≤ maxCount)) × (b ≤ m)
+Numbers s (queue d a c v) = c ≤ maxCapacity
+Numbers s (region d a b z v) = ((1 ≤ z) × (b + z ≤ addressEnd)) × ((s .fixed .unit ∣ b) × (s .fixed .unit ∣ z))
 
 -- "region starting below the end of the region entered before it"
 abbrev pub Above : State → Entry → Type 0
@@ -109,11 +112,11 @@ attribute-tells (sem d a b m v) = eq-tells a 0
 attribute-tells (queue d a c v) = eq-tells a 0
 attribute-tells (region d a b z v) = or-tells (or-tells (or-tells (eq-tells a 0) (eq-tells a 1)) (eq-tells a 4)) (eq-tells a 5)
 
-numbers-tells : (e : Entry) → Tells (numbersOk e) (Numbers e)
-numbers-tells (task d) = always-tells
-numbers-tells (sem d a b m v) = and-tells (and-tells (le-tells 1 m) (le-tells m maxCount)) (le-tells b m)
-numbers-tells (queue d a c v) = le-tells c maxCapacity
-numbers-tells (region d a b z v) = and-tells (le-tells 1 z) (le-tells (b + z) addressEnd)
+numbers-tells : (s : State) (e : Entry) → Tells (numbersOk s e) (Numbers s e)
+numbers-tells s (task d) = always-tells
+numbers-tells s (sem d a b m v) = and-tells (and-tells (le-tells 1 m) (le-tells m maxCount)) (le-tells b m)
+numbers-tells s (queue d a c v) = le-tells c maxCapacity
+numbers-tells s (region d a b z v) = region-numbers-tells (s .fixed .unit) b z
 
 last-end : (l : List Region) (r : Region) → lastEnd (l ++ (r ∷ [])) ≡ r .base + r .size
 last-end [] r = refl
@@ -161,7 +164,7 @@ module _ (s : State) (e : Entry) where
   afterNumbers = refuseIf (not (placeOk s e)) eObj afterPlace
 
   abbrev afterAttribute : Option Err
-  afterAttribute = refuseIf (not (numbersOk e)) ePar afterNumbers
+  afterAttribute = refuseIf (not (numbersOk s e)) ePar afterNumbers
 
   abbrev afterDomain : Option Err
   afterDomain = refuseIf (not (attributeOk e)) eRsatr afterAttribute
@@ -205,12 +208,12 @@ module _ (s : State) (e : Entry) where
           past-rsatr = past-id ∙ passes-on (attribute-tells e) eRsatr afterAttribute a
 
           -- "numbers: E_PAR"
-          pub enter-par : (Numbers e → ⊥) → enter s e .answer .code ≡ error ePar
-          enter-par f = code-by ePar (past-rsatr ∙ stops-at (numbers-tells e) ePar afterNumbers f)
+          pub enter-par : (Numbers s e → ⊥) → enter s e .answer .code ≡ error ePar
+          enter-par f = code-by ePar (past-rsatr ∙ stops-at (numbers-tells s e) ePar afterNumbers f)
 
-          module _ (n : Numbers e) where
+          module _ (n : Numbers s e) where
             past-par : checkEntry s e ≡ afterNumbers
-            past-par = past-rsatr ∙ passes-on (numbers-tells e) ePar afterNumbers n
+            past-par = past-rsatr ∙ passes-on (numbers-tells s e) ePar afterNumbers n
 
             -- "region starting below the end of the region entered before it: E_OBJ"
             pub enter-obj : (Above s e → ⊥) → enter s e .answer .code ≡ error eObj
@@ -233,7 +236,7 @@ pub record Fits (s : State) (e : Entry) : Type 0 where
   pub room : Room s e
   pub owned : Owned (s .fixed .count) e
   pub attribute : Attribute e
-  pub numbers : Numbers e
+  pub numbers : Numbers s e
   pub above : Above s e
   pub memory : Memory s e
 
@@ -269,6 +272,7 @@ pub record TaskEntered (s s′ : State) (d : ℤ) : Type 0 where
   pub tasks : OneMore (pos zero) (s .fixed .domains) (s′ .fixed .domains) d
   pub closed : s′ .fixed .closed ≡ s .fixed .closed
   pub count : s′ .fixed .count ≡ s .fixed .count
+  pub unit : s′ .fixed .unit ≡ s .fixed .unit
   pub regions : s′ .fixed .regions ≡ s .fixed .regions
   pub waits : s′ .waits ≡ s .waits
   pub sems : s′ .sems ≡ s .sems
@@ -276,7 +280,7 @@ pub record TaskEntered (s s′ : State) (d : ℤ) : Type 0 where
 
 pub task-entered : (s : State) (d : ℤ) → Fits s (task d) → TaskEntered s (enter s (task d) .state) d
 task-entered s d f = subst (λ (o : Out). TaskEntered s (o .state) d) (sym (taken s (task d) f))
-    (record { tasks = one-more (pos zero) (s .fixed .domains) d; closed = refl; count = refl; regions = refl; waits = refl; sems = refl; queues = refl })
+    (record { tasks = one-more (pos zero) (s .fixed .domains) d; closed = refl; count = refl; unit = refl; regions = refl; waits = refl; sems = refl; queues = refl })
 
 -- "semaphores at their start count"
 pub record SemEntered (s s′ : State) (x : Sem) : Type 0 where
@@ -306,6 +310,7 @@ pub record RegionEntered (s s′ : State) (x : Region) : Type 0 where
   pub regions : OneMore noRegion (s .fixed .regions) (s′ .fixed .regions) x
   pub closed : s′ .fixed .closed ≡ s .fixed .closed
   pub count : s′ .fixed .count ≡ s .fixed .count
+  pub unit : s′ .fixed .unit ≡ s .fixed .unit
   pub domains : s′ .fixed .domains ≡ s .fixed .domains
   pub waits : s′ .waits ≡ s .waits
   pub sems : s′ .sems ≡ s .sems
@@ -314,12 +319,13 @@ pub record RegionEntered (s s′ : State) (x : Region) : Type 0 where
 pub region-entered : (s : State) (d : ℤ) (a b z : ℕ) (v : Choice) → Fits s (region d a b z v)
     → RegionEntered s (enter s (region d a b z v) .state) (record { domain = d; attribute = a; base = b; size = z; vector = resolved d v })
 region-entered s d a b z v f = subst (λ (o : Out). RegionEntered s (o .state) (record { domain = d; attribute = a; base = b; size = z; vector = resolved d v })) (sym (taken s (region d a b z v) f))
-    (record { regions = one-more noRegion (s .fixed .regions) _; closed = refl; count = refl; domains = refl; waits = refl; sems = refl; queues = refl })
+    (record { regions = one-more noRegion (s .fixed .regions) _; closed = refl; count = refl; unit = refl; domains = refl; waits = refl; sems = refl; queues = refl })
 
 -- ---- "closing only closes"
 pub record Closed (s s′ : State) : Type 0 where
   pub closed : s′ .fixed .closed ≡ true
   pub count : s′ .fixed .count ≡ s .fixed .count
+  pub unit : s′ .fixed .unit ≡ s .fixed .unit
   pub domains : s′ .fixed .domains ≡ s .fixed .domains
   pub regions : s′ .fixed .regions ≡ s .fixed .regions
   pub waits : s′ .waits ≡ s .waits
@@ -329,33 +335,44 @@ pub record Closed (s s′ : State) : Type 0 where
 pub close-only : (s : State) → s .fixed .closed ≡ false → (close s .answer .code ≡ ok) × Closed s (close s .state)
 unfolding close
 close-only s h = subst (λ (b : Bool). (closeBy b s .answer .code ≡ ok) × Closed s (closeBy b s .state)) (sym h)
-    (refl, record { closed = refl; count = refl; domains = refl; regions = refl; waits = refl; sems = refl; queues = refl })
+    (refl, record { closed = refl; count = refl; unit = refl; domains = refl; regions = refl; waits = refl; sems = refl; queues = refl })
 
 -- "closing it again too: E_CTX"
 pub close-again : (s : State) → s .fixed .closed ≡ true → close s .answer .code ≡ error eCtx
 unfolding close
 close-again s h = ap (λ (b : Bool). closeBy b s .answer .code) h
 
--- ---- "A fresh state takes n; n outside 0 to 32 is E_PAR and gives the empty open state for n = 0"
-pub record Empty (s : State) (n : ℕ) : Type 0 where
+-- ---- "The fresh state takes a unit size"; "a bad n or unit is E_PAR with the empty state for n = 0 and unit 1"
+pub record Empty (s : State) (n u : ℕ) : Type 0 where
   pub closed : s .fixed .closed ≡ false
   pub count : s .fixed .count ≡ n
+  pub unit : s .fixed .unit ≡ u
   pub domains : s .fixed .domains ≡ []
   pub regions : s .fixed .regions ≡ []
   pub waits : s .waits ≡ []
   pub sems : s .sems ≡ []
   pub queues : s .queues ≡ []
 
-pub fresh-takes : (n : ℕ) → n ≤ maxDomains → (fresh (pos n) .answer .code ≡ ok) × Empty (fresh (pos n) .state) n
-unfolding fresh
-fresh-takes n h = subst (λ (b : Bool). (freshBy b n .answer .code ≡ ok) × Empty (freshBy b n .state) n) (sym (holds (le-tells n maxDomains) h))
-    (refl, record { closed = refl; count = refl; domains = refl; regions = refl; waits = refl; sems = refl; queues = refl })
+module _ (n unit : ℕ) where
+  fresh-tells : Tells (leb n maxDomains && unitOk unit) ((n ≤ maxDomains) × IsUnit unit)
+  fresh-tells = and-tells (le-tells n maxDomains) (unit-tells unit)
 
-pub fresh-above : (n : ℕ) → maxDomains < n → (fresh (pos n) .answer .code ≡ error ePar) × Empty (fresh (pos n) .state) 0
-unfolding fresh
-fresh-above n h = subst (λ (b : Bool). (freshBy b n .answer .code ≡ error ePar) × Empty (freshBy b n .state) 0) (sym (fails (le-tells n maxDomains) (λ z. omega arith)))
-    (refl, record { closed = refl; count = refl; domains = refl; regions = refl; waits = refl; sems = refl; queues = refl })
+  pub fresh-takes : n ≤ maxDomains → IsUnit unit → (fresh (pos n) unit .answer .code ≡ ok) × Empty (fresh (pos n) unit .state) n unit
+  unfolding fresh
+  fresh-takes h u = subst (λ (b : Bool). (freshBy b n unit .answer .code ≡ ok) × Empty (freshBy b n unit .state) n unit) (sym (holds fresh-tells (h, u)))
+      (refl, record { closed = refl; count = refl; unit = refl; domains = refl; regions = refl; waits = refl; sems = refl; queues = refl })
 
-pub fresh-below : (n : ℕ) → (fresh (negsuc n) .answer .code ≡ error ePar) × Empty (fresh (negsuc n) .state) 0
+  bad : ((n ≤ maxDomains) × IsUnit unit → ⊥) → (fresh (pos n) unit .answer .code ≡ error ePar) × Empty (fresh (pos n) unit .state) 0 1
+  unfolding fresh
+  bad f = subst (λ (b : Bool). (freshBy b n unit .answer .code ≡ error ePar) × Empty (freshBy b n unit .state) 0 1) (sym (fails fresh-tells f))
+      (refl, record { closed = refl; count = refl; unit = refl; domains = refl; regions = refl; waits = refl; sems = refl; queues = refl })
+
+  pub fresh-above : maxDomains < n → (fresh (pos n) unit .answer .code ≡ error ePar) × Empty (fresh (pos n) unit .state) 0 1
+  fresh-above h = bad (λ p. omega (arith, p .0))
+
+  pub fresh-unit : (IsUnit unit → ⊥) → (fresh (pos n) unit .answer .code ≡ error ePar) × Empty (fresh (pos n) unit .state) 0 1
+  fresh-unit f = bad (λ p. f (p .1))
+
+pub fresh-below : (k unit : ℕ) → (fresh (negsuc k) unit .answer .code ≡ error ePar) × Empty (fresh (negsuc k) unit .state) 0 1
 unfolding fresh
-fresh-below n = (refl, record { closed = refl; count = refl; domains = refl; regions = refl; waits = refl; sems = refl; queues = refl })
+fresh-below k unit = (refl, record { closed = refl; count = refl; unit = refl; domains = refl; regions = refl; waits = refl; sems = refl; queues = refl })

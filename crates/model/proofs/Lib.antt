@@ -1,5 +1,6 @@
 pub mod Lists
 pub mod Tests
+pub mod Units
 pub mod Cases
 pub mod Answers
 pub mod Cover

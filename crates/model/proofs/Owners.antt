@@ -1,7 +1,7 @@
 -- Every task belongs to the kernel domain or to one of the domains 1 to n; so "bits for domains above n .. admit nobody" (document 01). Assumes nothing.
 use mathlib.Core.Path.{_≡_, refl, sym, _∙_, subst}
 use mathlib.Core.Logic.{_≢_}
-use mathlib.Core.Bool.{Bool, true, false}
+use mathlib.Core.Bool.{Bool, true, false, _&&_}
 use mathlib.Core.List.{List, [], _∷_}
 use mathlib.Core.Option.{Option, none, some}
 use Prim.Native.Nat.{ℕ, zero, suc, _^_, _%_, _≤_}
@@ -18,9 +18,10 @@ use Rattle.model.specs.Calls.{Call, step}
 use Rattle.model.specs.Lists.{All, at}
 use Rattle.model.specs.State.{Fixed, State, domainAt}
 use Rattle.model.specs.Table.{Entry, task, sem, queue, region, hasRoom, domainOk, checkEntry, enterBy, enter, freshBy, fresh, closeBy, close}
+use Rattle.model.specs.Units.{unitOk}
 use Rattle.model.proofs.Answers.{Ready}
 use Rattle.model.proofs.Entries.{TaskOwner, task-owner-tells}
-use Rattle.model.proofs.Lists.{all-snoc}
+use Rattle.model.proofs.Lists.{and-left, all-snoc}
 use Rattle.model.proofs.Steps.{fixed-law}
 use Rattle.model.proofs.Tests.{le-tells, true-tells, passed-by}
 
@@ -30,13 +31,13 @@ pub record Owners (f : Fixed) : Type 0 where
   pub known : All (TaskOwner (f .count)) (f .domains)
 
 -- ---- of what fresh gives, kept by every entry, closing and call
-pub owners-fresh : (n : ℤ) → Owners (fresh n .state .fixed)
+pub owners-fresh : (n : ℤ) (unit : ℕ) → Owners (fresh n unit .state .fixed)
 unfolding fresh
-owners-fresh (negsuc n) = record { few = omega arith; known = tt }
-owners-fresh (pos n) = go (leb n maxDomains) refl
+owners-fresh (negsuc k) unit = record { few = omega arith; known = tt }
+owners-fresh (pos n) unit = go (leb n maxDomains && unitOk unit) refl
   where
-    go : (b : Bool) → leb n maxDomains ≡ b → Owners (freshBy b n .state .fixed)
-    go true h = record { few = le-tells n maxDomains .yes h; known = tt }
+    go : (b : Bool) → leb n maxDomains && unitOk unit ≡ b → Owners (freshBy b n unit .state .fixed)
+    go true h = record { few = le-tells n maxDomains .yes (and-left (leb n maxDomains) (unitOk unit) h); known = tt }
     go false h = record { few = omega arith; known = tt }
 
 past : (b : Bool) (e : Err) (r : Option Err) → refuseIf b e r ≡ none → r ≡ none

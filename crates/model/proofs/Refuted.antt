@@ -1,5 +1,6 @@
 -- What demand 3 shuts out: for each such thing a history of answers that it refutes. Closed computations; assumes nothing.
 use mathlib.Core.Path.{_≡_, ap}
+use Rattle.itron.specs.Limits.{minUnit}
 use mathlib.Core.Bool.{true}
 use mathlib.Core.List.{List, [], _∷_, map}
 use Prim.Native.Nat.{ℕ}
@@ -21,7 +22,7 @@ for p = record { normal1 = p; normal2 = p; management = p; reference = p }
 
 abbrev table : List Waiter → ℕ → List ℕ → State
 table ws k b = record {
-  fixed = record { closed = true; count = 2; domains = pos 1 ∷ pos 2 ∷ pos 1 ∷ []; regions = [] };
+  fixed = record { closed = true; count = 2; unit = minUnit; domains = pos 1 ∷ pos 2 ∷ pos 1 ∷ []; regions = [] };
   waits = ws;
   sems = record { domain = negsuc 0; attribute = 0; max = 9; count = k; vector = for 1 } ∷ [];
   queues = record { domain = negsuc 0; attribute = 0; capacity = 2; buffer = b; vector = for 1 } ∷ [];

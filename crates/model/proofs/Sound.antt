@@ -13,7 +13,7 @@ use Rattle.itron.specs.Codes.{eCtx}
 use Rattle.model.proofs.Cases.{setCount, setSem, setQueue, release, join}
 use Rattle.model.specs.Answers.{Out, refuse}
 use Rattle.model.specs.Calls.{Kind, semaphore, queue, Call, no, setVectorOf, step, check}
-use Rattle.model.specs.Conditions.{WaitsFit, QueuesFit, Within, Spent, Known, Plain, BufferFits, Fit, Sound}
+use Rattle.model.specs.Conditions.{WaitsFit, QueuesFit, Within, Spent, Known, Plain, BufferFits, Fit, UnitFits, Sound}
 use Rattle.model.specs.Lists.{at, put, keep, consIf, All}
 use Rattle.model.specs.Queues.{wordsUsed}
 use Rattle.model.specs.State.{Vector, Fixed, Sem, Queue, onSem, receiving, sending, Place, Waiter, State, place, samePlace, noSem, noQueue, semAt, queueAt, waiter}
@@ -250,5 +250,6 @@ sound-step s c k = record {
   within = cover s WithinLaw (within-cases s (k .within)) c;
   spent = λ i. cover s (SpentLaw i) (spent-cases s (k .fit .waits .distinct) (k .spent) i) c;
   fine = λ q. queue-law s (k .fit .waits .distinct) q (k .fine q) c .fine;
+  unit = subst UnitFits (sym (fixed-law s c)) (k .unit);
   quiet = λ h. let o : s .fixed .closed ≡ false = ap (λ (f : Fixed). f .closed) (sym (fixed-law s c)) ∙ h in ap (λ (x : Out). x .state .waits) (open-refuses s c o) ∙ k .quiet o;
 }

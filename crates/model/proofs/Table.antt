@@ -12,14 +12,16 @@ use lib.IntN.{ℤ, pos, negsuc}
 use borrow.Author.Tests.{ltb-true, leb-true}
 use Rattle.itron.specs.Codes.{Err, ok, error}
 use Rattle.model.specs.Answers.{refuseIf}
-use Rattle.model.specs.Conditions.{BufferFits, Bounded, Ascending, Spent, QueueOk, qviewOf, Sound}
+use Rattle.model.specs.Conditions.{BufferFits, Bounded, Ascending, Whole, Spent, QueueOk, qviewOf, Sound}
 use Rattle.model.specs.Lists.{at}
 use Rattle.model.specs.Queues.{wordsUsed}
 use Rattle.model.specs.State.{Sem, Queue, Region, State, noSem, place}
 use Rattle.model.specs.Table.{Entry, task, sem, queue, region, hasRoom, domainOk, attributeOk, numbersOk, placeOk, memoryOk, checkEntry, newSem, newQueue, newRegion, add, enterBy, enter, emptyState, freshBy, fresh, closeBy, close}
-use Rattle.itron.specs.Limits.{maxTasks, maxSemaphores, maxQueues, maxRegions, maxWords, maxCount, maxDomains, addressEnd}
+use Rattle.itron.specs.Limits.{maxTasks, maxSemaphores, maxQueues, maxRegions, maxWords, maxCount, maxDomains, minUnit}
 use Rattle.model.specs.Regions.{lastEnd}
-use Rattle.model.proofs.Lists.{and-left, and-right, no-both, all-snoc}
+use Rattle.model.specs.Units.{unitOk}
+use Rattle.model.proofs.Lists.{and-right, no-both, all-snoc}
+use Rattle.model.proofs.Units.{region-numbers-tells, unit-one}
 
 pass : (b : Bool) (e : Err) (r : Option Err) → refuseIf (not b) e r ≡ none → (b ≡ true) × (r ≡ none)
 pass false e r h = absurd (let z : _≡_ {A = Bool} true false = cc in no-both {b = true} refl z)
@@ -33,7 +35,7 @@ open-of false e r h = (refl, h)
 pub record Taken (s : State) (i : Entry) : Type 0 where
   pub opened : s .fixed .closed ≡ false
   pub room : hasRoom s i ≡ true
-  pub numbers : numbersOk i ≡ true
+  pub numbers : numbersOk s i ≡ true
   pub place : placeOk s i ≡ true
   pub memory : memoryOk s i ≡ true
 
@@ -43,7 +45,7 @@ taken s i h =
     let h₂ = pass (hasRoom s i) _ _ (h₁ .1) in
     let h₃ = pass (domainOk (s .fixed .count) i) _ _ (h₂ .1) in
     let h₄ = pass (attributeOk i) _ _ (h₃ .1) in
-    let h₅ = pass (numbersOk i) _ _ (h₄ .1) in
+    let h₅ = pass (numbersOk s i) _ _ (h₄ .1) in
     let h₆ = pass (placeOk s i) _ _ (h₅ .1) in
     let h₇ = pass (memoryOk s i) _ _ (h₆ .1) in
     record { opened = h₁ .0; room = h₂ .0; numbers = h₅ .0; place = h₆ .0; memory = h₇ .0 }
@@ -88,6 +90,7 @@ sound-add s (task d) k t =
       within = k .within;
       spent = k .spent;
       fine = k .fine;
+      unit = record { power = k .unit .power; whole = k .unit .whole };
       quiet = k .quiet;
     }
 sound-add s (sem d a b m v) k t =
@@ -101,6 +104,7 @@ sound-add s (sem d a b m v) k t =
       within = all-of (λ (y : Sem). y .count ≤ y .max) noSem (s .sems) x (omega arith) (leb-true b m (and-right (leb 1 m && leb m maxCount) (leb b m) (t .numbers))) (k .within);
       spent = still-spent (add s (sem d a b m v)) w;
       fine = k .fine;
+      unit = k .unit;
       quiet = k .quiet;
     }
 sound-add s (queue d a c v) k t =
@@ -116,6 +120,7 @@ sound-add s (queue d a c v) k t =
       within = k .within;
       spent = k .spent;
       fine = still-fine (add s (queue d a c v)) w;
+      unit = k .unit;
       quiet = k .quiet;
     }
 sound-add s (region d a b z v) k t =
@@ -124,13 +129,13 @@ sound-add s (region d a b z v) k t =
     let r = ltb-true (length rs) maxRegions (t .room) in
     let x = newRegion d a b z v in
     let n = length-append rs (x ∷ []) in
-    let p = leb-true 1 z (and-left (leb 1 z) (leb (b + z) addressEnd) (t .numbers)) in
-    let q = leb-true (b + z) addressEnd (and-right (leb 1 z) (leb (b + z) addressEnd) (t .numbers)) in
+    let g = region-numbers-tells (s .fixed .unit) b z .yes (t .numbers) in
     record {
-      fit = record { waits = k .fit .waits; sems = k .fit .sems; queues = k .fit .queues; regions = record { few = omega arith; bounded = all-snoc Bounded rs x (f .bounded) (p, q); ascending = ascending-snoc rs x (f .ascending) (leb-true (lastEnd rs) b (t .place)) } };
+      fit = record { waits = k .fit .waits; sems = k .fit .sems; queues = k .fit .queues; regions = record { few = omega arith; bounded = all-snoc Bounded rs x (f .bounded) (g .0); ascending = ascending-snoc rs x (f .ascending) (leb-true (lastEnd rs) b (t .place)) } };
       within = k .within;
       spent = k .spent;
       fine = k .fine;
+      unit = record { power = k .unit .power; whole = all-snoc (Whole (s .fixed .unit)) rs x (k .unit .whole) (g .1) };
       quiet = k .quiet;
     }
 
@@ -142,12 +147,13 @@ sound-enter s i k = go (checkEntry s i) refl
     go (some e) h = k
     go none h = sound-add s i k (taken s i h)
 
-pub sound-empty : (n : ℕ) → Sound (emptyState n)
-sound-empty n = record {
+pub sound-empty : (n unit : ℕ) → unitOk unit ≡ true → Sound (emptyState n unit)
+sound-empty n unit u = record {
   fit = record { waits = record { tasks = omega arith; distinct = tt; known = tt; plain = tt }; sems = omega arith; queues = record { few = omega arith; words = omega arith; buffers = tt }; regions = record { few = omega arith; bounded = tt; ascending = tt } };
   within = λ i. none-at i;
   spent = λ i. inl refl;
   fine = λ q. record { idle = inl refl; full = inl refl };
+  unit = record { power = u; whole = tt };
   quiet = λ h. refl;
 }
   where
@@ -155,14 +161,14 @@ sound-empty n = record {
     none-at zero = omega arith
     none-at (suc i) = omega arith
 
-pub sound-fresh : (n : ℤ) → Sound (fresh n .state)
+pub sound-fresh : (n : ℤ) (unit : ℕ) → Sound (fresh n unit .state)
 unfolding fresh
-sound-fresh (negsuc n) = sound-empty 0
-sound-fresh (pos n) = go (leb n maxDomains)
+sound-fresh (negsuc k) unit = sound-empty 0 minUnit unit-one
+sound-fresh (pos n) unit = go (leb n maxDomains && unitOk unit) refl
   where
-    go : (b : Bool) → Sound (freshBy b n .state)
-    go true = sound-empty n
-    go false = sound-empty 0
+    go : (b : Bool) → leb n maxDomains && unitOk unit ≡ b → Sound (freshBy b n unit .state)
+    go true h = sound-empty n unit (and-right (leb n maxDomains) (unitOk unit) h)
+    go false h = sound-empty 0 minUnit unit-one
 
 pub sound-close : (s : State) → Sound s → Sound (close s .state)
 unfolding close
@@ -175,6 +181,7 @@ sound-close s k = go (s .fixed .closed)
       within = k .within;
       spent = k .spent;
       fine = k .fine;
+      unit = record { power = k .unit .power; whole = k .unit .whole };
       quiet = λ h. absurd (no-both {b = true} refl h);
     }
 

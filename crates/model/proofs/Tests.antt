@@ -67,6 +67,9 @@ module _ {a b : Bool} {P Q : Type 0} (f : Tells a P) (g : Tells b Q) where
       stop false false e k h (inl p) = f .no e p
       stop false false e k h (inr q) = g .no k q
 
+pub iff-tells : {b : Bool} {P Q : Type 0} → (P → Q) → (Q → P) → Tells b P → Tells b Q
+iff-tells f g t = record { yes = λ h. f (t .yes h); no = λ h q. t .no h (g q) }
+
 pub not-tells : {b : Bool} {P : Type 0} → Tells b P → Tells (not b) (P → ⊥)
 not-tells {b} t = record { yes = λ h p. no-both h (ap not (holds t p)); no = λ h f. no-both (ap not (fails t f)) h }
 

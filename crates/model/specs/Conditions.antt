@@ -3,14 +3,15 @@ use mathlib.Core.Path.{_≡_}
 use mathlib.Core.Logic.{_≢_, _⊎_}
 use mathlib.Core.Bool.{true, false}
 use mathlib.Core.List.{List, [], _∷_}
-use Prim.Native.Nat.{ℕ, _≤_}
+use Prim.Native.Nat.{ℕ, _≤_, _∣_}
 use lib.ListN.{length}
 use lib.IntN.{ℤ}
 use Rattle.itron.specs.Limits.{maxTasks, maxSemaphores, maxQueues, maxRegions, maxWords, addressEnd}
 use Rattle.model.specs.Lists.{All}
-use Rattle.model.specs.State.{Waiter, Side, onSem, receiving, sending, State, Queue, Region, place, queueAt, semAt}
+use Rattle.model.specs.State.{Waiter, Fixed, Side, onSem, receiving, sending, State, Queue, Region, place, queueAt, semAt}
 use Rattle.model.specs.Waits.{senders, receivers, waitersAt, absent}
 use Rattle.model.specs.Queues.{wordsUsed}
+use Rattle.model.specs.Units.{unitOk}
 use Rattle.model.specs.Regions.{end}
 
 -- ---- the waiting tasks
@@ -61,6 +62,14 @@ pub record RegionsFit (regions : List Region) : Type 0 where
   pub bounded : All Bounded regions
   pub ascending : Ascending regions
 
+-- ---- the protection unit is one, and each region is made of whole units
+abbrev pub Whole : ℕ → Region → Type 0
+Whole unit r = (unit ∣ r .base) × (unit ∣ r .size)
+
+pub record UnitFits (f : Fixed) : Type 0 where
+  pub power : unitOk (f .unit) ≡ true
+  pub whole : All (Whole (f .unit)) (f .regions)
+
 -- ---- the state keeps document 01's limits
 pub record Fit (s : State) : Type 0 where
   pub waits : WaitsFit (s .fixed .domains) (s .waits)
@@ -99,5 +108,6 @@ pub record Sound (s : State) : Type 0 where
   pub within : Within s
   pub spent : (i : ℕ) → Spent s i
   pub fine : (q : ℕ) → QueueOk (qviewOf s q)
+  pub unit : UnitFits (s .fixed)
   -- nobody waits before the table is closed
   pub quiet : s .fixed .closed ≡ false → s .waits ≡ []

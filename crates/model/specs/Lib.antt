@@ -4,6 +4,7 @@ pub mod Answers
 pub mod Waits
 pub mod Semaphores
 pub mod Queues
+pub mod Units
 pub mod Regions
 pub mod Table
 pub mod Verdict

@@ -10,6 +10,7 @@ use Rattle.itron.specs.Codes.{Err, ePar, eNoexs, eObj, eMacv}
 use Rattle.itron.specs.Limits.{addressEnd}
 use Rattle.model.specs.State.{Region}
 use Rattle.model.specs.Answers.{refuseIf}
+use Rattle.model.specs.Units.{isWhole}
 
 -- the first address past a region
 abbrev pub end : Region → ℕ
@@ -21,8 +22,12 @@ abbrev pub attributeOk : ℕ → Bool
 attributeOk a = eqb a 0 || eqb a 1 || eqb a 4 || eqb a 5
 
 -- 5. region size at least 1 and base + size at most 2^32
-abbrev pub numbersOk : ℕ → ℕ → Bool
-numbersOk base size = leb 1 size && leb (base + size) addressEnd
+abbrev pub isArea : ℕ → ℕ → Bool
+isArea base size = leb 1 size && leb (base + size) addressEnd
+
+-- and base and size multiples of the protection unit
+abbrev pub numbersOk : ℕ → ℕ → ℕ → Bool
+numbersOk unit base size = isArea base size && isWhole unit base size
 
 -- the end of the region entered last, 0 where there is none
 abbrev pub lastEnd : List Region → ℕ

@@ -38,10 +38,11 @@ pub record Waiter : Type 0 where
   pub place : Place
   pub word : ℕ
 
--- what no call changes: whether the table is closed, the number n of user domains, each task's domain, the regions
+-- what no call changes: whether the table is closed, the number n of user domains, the protection unit, each task's domain, the regions
 pub record Fixed : Type 0 where
   pub closed : Bool
   pub count : ℕ
+  pub unit : ℕ
   pub domains : List ℤ
   pub regions : List Region
 

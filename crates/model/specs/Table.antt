@@ -9,11 +9,12 @@ use lib.IntN.{ℤ, pos, negsuc}
 use Rattle.access.specs.Vectors.{resolved}
 use Rattle.access.specs.declared.vector.Choice.{Choice}
 use Rattle.itron.specs.Codes.{Err, eCtx, eId, eNoid, eRsatr, ePar, eObj, eNomem}
-use Rattle.itron.specs.Limits.{maxDomains, maxTasks, maxSemaphores, maxQueues, maxRegions}
+use Rattle.itron.specs.Limits.{maxDomains, maxTasks, maxSemaphores, maxQueues, maxRegions, minUnit}
 use Rattle.model.specs.State.{Sem, Queue, Region, Fixed, State}
 use Rattle.model.specs.Answers.{Out, refuse, done, refuseIf}
 use Rattle.model.specs.Semaphores as Semaphores
 use Rattle.model.specs.Queues as Queues
+use Rattle.model.specs.Units.{unitOk}
 use Rattle.model.specs.Regions as Regions
 
 -- an entry of each kind, with its numbers as given, and the vector given or none
@@ -61,11 +62,11 @@ attributeOk (queue d a c v) = Queues.attributeOk a
 attributeOk (region d a b z v) = Regions.attributeOk a
 
 -- 5. numbers: E_PAR
-abbrev pub numbersOk : Entry → Bool
-numbersOk (task d) = true
-numbersOk (sem d a b m v) = Semaphores.numbersOk b m
-numbersOk (queue d a c v) = Queues.numbersOk c
-numbersOk (region d a b z v) = Regions.numbersOk b z
+abbrev pub numbersOk : State → Entry → Bool
+numbersOk s (task d) = true
+numbersOk s (sem d a b m v) = Semaphores.numbersOk b m
+numbersOk s (queue d a c v) = Queues.numbersOk c
+numbersOk s (region d a b z v) = Regions.numbersOk (s .fixed .unit) b z
 
 -- 6. region starting below the end of the region entered before it: E_OBJ
 abbrev pub placeOk : State → Entry → Bool
@@ -88,16 +89,16 @@ checkEntry s e =
     (refuseIf (not (hasRoom s e)) eNoid
     (refuseIf (not (domainOk (s .fixed .count) e)) eId
     (refuseIf (not (attributeOk e)) eRsatr
-    (refuseIf (not (numbersOk e)) ePar
+    (refuseIf (not (numbersOk s e)) ePar
     (refuseIf (not (placeOk s e)) eObj
     (refuseIf (not (memoryOk s e)) eNomem none))))))
 
 -- ---- an entry is kept as given, last of its kind, the default vector resolved, and nothing else changes
 abbrev pub addTask : Fixed → ℤ → Fixed
-addTask f d = record { closed = f .closed; count = f .count; domains = f .domains ++ (d ∷ []); regions = f .regions }
+addTask f d = record { closed = f .closed; count = f .count; unit = f .unit; domains = f .domains ++ (d ∷ []); regions = f .regions }
 
 abbrev pub addRegion : Fixed → Region → Fixed
-addRegion f r = record { closed = f .closed; count = f .count; domains = f .domains; regions = f .regions ++ (r ∷ []) }
+addRegion f r = record { closed = f .closed; count = f .count; unit = f .unit; domains = f .domains; regions = f .regions ++ (r ∷ []) }
 
 -- semaphores start at their start count, queues empty
 abbrev pub newSem : ℤ → ℕ → ℕ → ℕ → Choice → Sem
@@ -123,21 +124,21 @@ enterBy s e none = done (add s e)
 unfoldable pub enter : State → Entry → Out
 enter s e = enterBy s e (checkEntry s e)
 
--- ---- a fresh state takes n; n outside 0 to 32 is E_PAR and gives the empty open state for n = 0
-abbrev pub emptyState : ℕ → State
-emptyState n = record { fixed = record { closed = false; count = n; domains = []; regions = [] }; waits = []; sems = []; queues = [] }
+-- ---- a fresh state takes n and a unit; n outside 0 to 32 or a bad unit is E_PAR and gives the empty open state for n = 0 and unit 1
+abbrev pub emptyState : ℕ → ℕ → State
+emptyState n unit = record { fixed = record { closed = false; count = n; unit = unit; domains = []; regions = [] }; waits = []; sems = []; queues = [] }
 
-abbrev pub freshBy : Bool → ℕ → Out
-freshBy true n = done (emptyState n)
-freshBy false n = refuse (emptyState 0) ePar
+abbrev pub freshBy : Bool → ℕ → ℕ → Out
+freshBy true n unit = done (emptyState n unit)
+freshBy false n unit = refuse (emptyState 0 minUnit) ePar
 
-unfoldable pub fresh : ℤ → Out
-fresh (pos n) = freshBy (leb n maxDomains) n
-fresh (negsuc n) = refuse (emptyState 0) ePar
+unfoldable pub fresh : ℤ → ℕ → Out
+fresh (pos n) unit = freshBy (leb n maxDomains && unitOk unit) n unit
+fresh (negsuc k) unit = freshBy false 0 unit
 
 -- ---- closing only closes; closing again is E_CTX
 abbrev pub shut : State → State
-shut s = record { fixed = record { closed = true; count = s .fixed .count; domains = s .fixed .domains; regions = s .fixed .regions }; waits = s .waits; sems = s .sems; queues = s .queues }
+shut s = record { fixed = record { closed = true; count = s .fixed .count; unit = s .fixed .unit; domains = s .fixed .domains; regions = s .fixed .regions }; waits = s .waits; sems = s .sems; queues = s .queues }
 
 abbrev pub closeBy : Bool → State → Out
 closeBy true s = refuse s eCtx

@@ -49,20 +49,21 @@ column-snoc n d f rs x l =
 abbrev pub entered : Regions → Region → Regions
 entered r x =
     record {
+      unit = r .unit;
       count = r .count + 1;
       bases = set (r .bases) (r .count) (x .base);
       sizes = set (r .sizes) (r .count) (x .size);
       protections = set (r .protections) (r .count) (protectionOf x);
     }
 
-enter-form : (rs : List Region) (x : Region) → length rs < maxRegions → entered (regionsAs rs) x ≡ regionsAs (rs ++ (x ∷ []))
+enter-form : (unit : ℕ) (rs : List Region) (x : Region) → length rs < maxRegions → entered (regionsAs unit rs) x ≡ regionsAs unit (rs ++ (x ∷ []))
 unfolding regionsAs
-enter-form rs x l =
+enter-form unit rs x l =
     let n : length (rs ++ (x ∷ [])) ≡ length rs + 1 = length-append rs (x ∷ []) in
     let b = column-snoc maxRegions 0 baseOf rs x l in
     let z = column-snoc maxRegions 0 sizeOf rs x l in
     let p = column-snoc maxRegions noProtection protectionOf rs x l in
-    λ i. record { count = sym n i; bases = b i; sizes = z i; protections = p i }
+    λ i. record { unit = unit; count = sym n i; bases = b i; sizes = z i; protections = p i }
 
-pub enter-link : {r : Regions} → Held r → (x : Region) → length (regionsOf r) < maxRegions → entered r x ≡ regionsAs (regionsOf r ++ (x ∷ []))
-enter-link {r} h x l = ap (λ (y : Regions). entered y x) (h .form) ∙ enter-form (regionsOf r) x l
+pub enter-link : {r : Regions} → Held r → (x : Region) → length (regionsOf r) < maxRegions → entered r x ≡ regionsAs (r .unit) (regionsOf r ++ (x ∷ []))
+enter-link {r} h x l = ap (λ (y : Regions). entered y x) (h .form) ∙ enter-form (r .unit) (regionsOf r) x l

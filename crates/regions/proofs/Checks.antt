@@ -13,7 +13,7 @@ use Rattle.itron.specs.Limits.{addressEnd}
 use Rattle.model.specs.Lists.{at}
 use Rattle.model.specs.State.{Region, noRegion}
 use Rattle.model.specs.Answers.{refuseIf, resultOf}
-use Rattle.model.specs.Regions.{end, numbersOk, lastEnd, wishesOk, areaOk, judgeIn}
+use Rattle.model.specs.Regions.{end, isArea, lastEnd, wishesOk, areaOk, judgeIn}
 
 -- ---- ladders of checks, by the values of their tests
 abbrev pub enters : Bool → Bool → Bool → ℤ
@@ -32,7 +32,7 @@ swap true false z = refl
 swap false true z = refl
 swap false false z = refl
 
-pub request-ok : (base size w : ℕ) → wishesOk w && numbersOk base size ≡ areaOk base size w
+pub request-ok : (base size w : ℕ) → wishesOk w && isArea base size ≡ areaOk base size w
 request-ok base size w = swap (leb 1 size) (wishesOk w) (leb (base + size) addressEnd)
 
 -- ---- the region entered last

@@ -2,4 +2,5 @@ pub mod Back
 pub mod Cells
 pub mod Searches
 pub mod Checks
+pub mod Units
 pub mod OneRegion

@@ -11,10 +11,10 @@ use Rattle.model.specs.Answers.{refuseIf}
 use Rattle.model.specs.Regions.{attributeOk, numbersOk, placeOk}
 
 -- first hit wins: attribute E_RSATR, numbers E_PAR, starting below the end of the region before E_OBJ
-abbrev pub entryCheck : List Region → ℕ → ℕ → ℕ → Option Err
-entryCheck rs attribute base size =
+abbrev pub entryCheck : ℕ → List Region → ℕ → ℕ → ℕ → Option Err
+entryCheck unit rs attribute base size =
     refuseIf (not (attributeOk attribute)) eRsatr
-    (refuseIf (not (numbersOk base size)) ePar
+    (refuseIf (not (numbersOk unit base size)) ePar
     (refuseIf (not (placeOk rs base)) eObj none))
 
 -- an entry is kept as given

@@ -22,9 +22,10 @@ protectionOf r = record { domain = r .domain; attribute = r .attribute; vector =
 abbrev pub noProtection : Protection
 noProtection = record { domain = pos zero; attribute = 0; vector = zeroVector }
 
-unfoldable pub regionsAs : List Region → Regions
-regionsAs rs =
+unfoldable pub regionsAs : ℕ → List Region → Regions
+regionsAs unit rs =
     record {
+      unit = unit;
       count = length rs;
       bases = pad maxRegions 0 (map baseOf rs);
       sizes = pad maxRegions 0 (map sizeOf rs);

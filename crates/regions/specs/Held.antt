@@ -1,7 +1,9 @@
 -- The condition of the regions' part of the state. Definitions only.
 use Prim.Native.Nat.{_≤_}
 use mathlib.Core.Path.{_≡_}
+use mathlib.Core.Bool.{true}
 use Rattle.itron.specs.Limits.{maxRegions}
+use Rattle.model.specs.Units.{unitOk}
 use Rattle.model.specs.Conditions.{RegionsFit}
 use Rattle.regions.specs.declared.state.Regions.{Regions}
 use Rattle.regions.specs.View.{regionsOf}
@@ -9,7 +11,8 @@ use Rattle.regions.specs.Form.{regionsAs}
 
 -- the arrays are the form of what is seen of them, and that keeps document 01's limits
 pub record Held (r : Regions) : Type 0 where
-  pub form : r ≡ regionsAs (regionsOf r)
+  pub form : r ≡ regionsAs (r .unit) (regionsOf r)
   pub fit : RegionsFit (regionsOf r)
+  pub power : unitOk (r .unit) ≡ true
   -- follows from the two; it stands here for the indexes
   pub few : r .count ≤ maxRegions

@@ -5,7 +5,7 @@ ghost use mathlib.Core.List.{[], _∷_, _++_};
 ghost use lib.ListN.{length};
 ghost use Rattle.itron.specs.Limits.{maxRegions};
 ghost use Rattle.model.specs.Answers.{resultOf};
-ghost use Rattle.model.specs.Regions.{attributeOk, numbersOk, lastEnd};
+ghost use Rattle.model.specs.Regions.{attributeOk, isArea, lastEnd};
 ghost use Rattle.regions.specs.View.{regionsOf};
 ghost use Rattle.regions.specs.Form.{regionsAs};
 ghost use Rattle.regions.specs.Held.{Held};
@@ -14,6 +14,7 @@ use crate::flag::EXECUTABLE;
 use crate::flag::NO_WRITE;
 use crate::state::Protection;
 use crate::state::Regions;
+use crate::unit::is_whole;
 use access::vector::Choice;
 use access::vector::Vector;
 use itron::code::E_OBJ;
@@ -42,7 +43,7 @@ pub(crate) fn is_attribute(attribute: u32) -> bool
 
 // Whether an area has bytes and ends within the addresses. The sum is made in 64 bits.
 pub(crate) fn is_area(base: u32, size: u32) -> bool
-    ensures { λ r. ⌜ r ≡ numbersOk base size ⌝ }
+    ensures { λ r. ⌜ r ≡ isArea base size ⌝ }
 {
     (1 <= size) & (base as u64 + size as u64 <= ADDRESS_END)
 }
@@ -63,10 +64,10 @@ impl Regions {
     // The code of an entry's attribute and numbers, by the checks of document 01 in their order.
     pub fn check(self, attribute: u32, base: u32, size: u32) -> i32
         requires { ⌜ Held self ⌝ }
-        ensures { λ r. ⌜ r ≡ resultOf (entryCheck (regionsOf self) attribute base size) ⌝ }
+        ensures { λ r. ⌜ r ≡ resultOf (entryCheck (self .unit) (regionsOf self) attribute base size) ⌝ }
     {
         let known = is_attribute(attribute);
-        let fits = is_area(base, size);
+        let fits = is_area(base, size) & is_whole(self.unit, base, size);
         let free = self.last_end() <= base as u64;
         if !known {
             return E_RSATR;
@@ -90,7 +91,7 @@ impl Regions {
         vector: Vector,
     ) -> Regions
         requires { ⌜ Held self × (length (regionsOf self) < maxRegions) ⌝ }
-        ensures { λ r. ⌜ r ≡ regionsAs (regionsOf self ++ (newRegion domain attribute base size vector ∷ [])) ⌝ }
+        ensures { λ r. ⌜ r ≡ regionsAs (self .unit) (regionsOf self ++ (newRegion domain attribute base size vector ∷ [])) ⌝ }
     {
         let index = self.count;
         self.bases[index] = base;

@@ -3,4 +3,5 @@ pub mod entry;
 pub mod flag;
 pub mod search;
 pub mod state;
+pub mod unit;
 pub mod verdict;

@@ -1,4 +1,4 @@
-// The regions that the kernel's state holds, in the order of their entries, which is that of their addresses.
+// The regions that the kernel's state holds, in the order of their entries, which is that of their addresses, and the protection unit.
 ghost use mathlib.Core.Path.{_≡_};
 ghost use Prim.Native.Nat.{_<_};
 ghost use mathlib.Core.List.{[]};
@@ -28,6 +28,8 @@ impl Protection {
 
 // The first `count` cells of each array are used, the others are zeros. Bases and sizes are arrays of numbers, so that they can be lent.
 pub struct Regions {
+    // The protection unit, of which every region is made.
+    pub(crate) unit: u32,
     pub(crate) count: usize,
     pub(crate) bases: [u32; MAX_REGIONS],
     pub(crate) sizes: [u32; MAX_REGIONS],
@@ -54,10 +56,11 @@ impl RegionInfo {
 }
 
 impl Regions {
-    pub fn empty() -> Regions
-        ensures { λ r. ⌜ r ≡ regionsAs [] ⌝ }
+    pub fn empty(unit: u32) -> Regions
+        ensures { λ r. ⌜ r ≡ regionsAs unit [] ⌝ }
     {
         Regions {
+            unit,
             count: 0,
             bases: [0; MAX_REGIONS],
             sizes: [0; MAX_REGIONS],
@@ -70,6 +73,12 @@ impl Regions {
         ensures { λ r. ⌜ r ≡ length (regionsOf self) ⌝ }
     {
         self.count
+    }
+
+    pub fn unit(self) -> u32
+        ensures { λ r. ⌜ r ≡ self .unit ⌝ }
+    {
+        self.unit
     }
 
     // The region at an index; an index is a number less 1.

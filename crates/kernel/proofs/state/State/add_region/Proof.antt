@@ -61,8 +61,8 @@ returns-2 c =
     let a = b .args in
     let d = sign q in
     let r = c .before .before .before .before .resolve .ensures in
-    let n : c .before .add .result ≡ regionsAs (viewOf (a .self) .fixed .regions ++ (Table.newRegion (a .given .domain) (a .given .attribute) (a .given .base) (a .given .size) (a .given .vector) ∷ [])) =
-    c .before .add .ensures ∙ (λ i. regionsAs (viewOf (a .self) .fixed .regions ++ (record { domain = d i; attribute = a .given .attribute; base = a .given .base; size = a .given .size; vector = rw d at r i } ∷ []))) in
+    let n : c .before .add .result ≡ regionsAs (viewOf (a .self) .fixed .unit) (viewOf (a .self) .fixed .regions ++ (Table.newRegion (a .given .domain) (a .given .attribute) (a .given .base) (a .given .size) (a .given .vector) ∷ [])) =
+    c .before .add .ensures ∙ (λ i. regionsAs (viewOf (a .self) .fixed .unit) (viewOf (a .self) .fixed .regions ++ (record { domain = d i; attribute = a .given .attribute; base = a .given .base; size = a .given .size; vector = rw d at r i } ∷ []))) in
     enters-entry (b .pre) (Table.region (a .given .domain) (a .given .attribute) (a .given .base) (a .given .size) (a .given .vector)) (c .enter2 .ensures ∙ region-taken (b .pre) (a .given .domain) (a .given .attribute) (a .given .base) (a .given .size) (a .given .vector) (passes (q .before)) (c .before .add .result) n)
 
 pub add-region-spec : {M : Type 1} → statement M

@@ -42,7 +42,7 @@ returns c =
     let a = c .before .before .before .before .before .before .args in
     let z = p .opening .result in
     let e : toZ w32 (ofZ w32 z) ≡ z = search needs in
-    e ∙ opening-refuses (a .self .closed) (not (ltb (length (viewOf (a .self) .fixed .regions)) maxRegions)) (not (owns (a .self .domains) (a .given .domain))) (entryCheck (viewOf (a .self) .fixed .regions) (a .given .attribute) (a .given .base) (a .given .size)) z (opens p) (λ q. c .if1 .taken (ap (ofZ w32) q))
+    e ∙ opening-refuses (a .self .closed) (not (ltb (length (viewOf (a .self) .fixed .regions)) maxRegions)) (not (owns (a .self .domains) (a .given .domain))) (entryCheck (viewOf (a .self) .fixed .unit) (viewOf (a .self) .fixed .regions) (a .given .attribute) (a .given .base) (a .given .size)) z (opens p) (λ q. c .if1 .taken (ap (ofZ w32) q))
 
 check-requires : tie.Need-check-requires
 check-requires c κs = regions-held (c .before .before .before .before .before .before .pre)
@@ -55,7 +55,7 @@ returns-2 c =
     let e : toZ w32 (ofZ w32 z) ≡ z = search needs in
     let r = c .check .result in
     let f : toZ w32 (ofZ w32 r) ≡ r = search needs in
-    f ∙ c .check .ensures ∙ opening-passes (a .self .closed) (not (ltb (length (viewOf (a .self) .fixed .regions)) maxRegions)) (not (owns (a .self .domains) (a .given .domain))) (entryCheck (viewOf (a .self) .fixed .regions) (a .given .attribute) (a .given .base) (a .given .size)) z (opens p) (sym e ∙ ap (toZ w32) (c .before .if1 .left))
+    f ∙ c .check .ensures ∙ opening-passes (a .self .closed) (not (ltb (length (viewOf (a .self) .fixed .regions)) maxRegions)) (not (owns (a .self .domains) (a .given .domain))) (entryCheck (viewOf (a .self) .fixed .unit) (viewOf (a .self) .fixed .regions) (a .given .attribute) (a .given .base) (a .given .size)) z (opens p) (sym e ∙ ap (toZ w32) (c .before .if1 .left))
 
 pub check-region-spec : {M : Type 1} → statement M
 check-region-spec =
