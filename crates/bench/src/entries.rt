@@ -64,12 +64,13 @@ fn label_region(domain: i32, attribute: u32, base: u32, size: u32, vector: Choic
     choice(vector);
 }
 
-pub fn fresh(n: i32) -> State
+pub fn fresh(n: i32, unit: u32) -> State
     ensures { λ r. ⌜ Valid r ⌝ }
 {
     text(b"\n  fresh table, n = ");
     signed(n);
-    say_entered(State::fresh(n))
+    named(b", unit ", unit as u64);
+    say_entered(State::fresh(n, unit))
 }
 
 pub fn add_task(s: State, domain: i32) -> State

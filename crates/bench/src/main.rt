@@ -6,6 +6,7 @@ pub mod runs;
 pub mod say;
 pub mod slips;
 pub mod table;
+pub mod units;
 
 use text::print::text;
 
@@ -19,6 +20,7 @@ fn main() {
     table::limits();
     runs::numbers(table);
     runs::regions(table);
+    units::all();
     slips::all(table);
     text(b"\n");
 }

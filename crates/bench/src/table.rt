@@ -12,18 +12,22 @@ use access::domain::NO_DOMAIN;
 use access::vector::Choice;
 use itron::limit::Limits;
 use itron::limit::MAX_CAPACITY;
+use itron::limit::MIN_UNIT;
 use kernel::state::State;
 use regions::flag::EXECUTABLE;
 use regions::flag::NO_WRITE;
 use text::print::heading;
 use text::print::named;
 
+// A unit with which document 01's regions are right.
+const UNIT: u32 = 4_096;
+
 // Tasks, semaphore and queues of all runs, and the regions; document 01 leaves the owners open.
 pub fn closed() -> State
     ensures { λ r. ⌜ Valid r ⌝ }
 {
     heading(b"The table of all runs");
-    let mut s = fresh(2);
+    let mut s = fresh(2, UNIT);
     s = add_task(s, 1);
     s = add_task(s, 2);
     s = add_task(s, KERNEL_DOMAIN);
@@ -56,6 +60,8 @@ fn say_limits() {
     named(b", of one ", limits.capacity as u64);
     named(b", count ", limits.count as u64);
     named(b", addresses ", limits.addresses);
+    named(b", units ", limits.finest as u64);
+    named(b" to ", limits.coarsest as u64);
 }
 
 // Four queues of the largest capacity: half of all words.
@@ -72,8 +78,8 @@ fn four_queues(mut s: State) -> State
 pub fn limits() {
     heading(b"Table");
     say_limits();
-    let mut s = fresh(33);
-    s = fresh(32);
+    let mut s = fresh(33, MIN_UNIT);
+    s = fresh(32, MIN_UNIT);
     s = add_semaphore(s, NO_DOMAIN, 0, 0, 65_535, Choice::Default);
     s = add_semaphore(s, NO_DOMAIN, 0, 0, 65_536, Choice::Default);
     s = add_semaphore(s, NO_DOMAIN, 0, 2, 1, Choice::Default);

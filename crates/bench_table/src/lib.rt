@@ -6,7 +6,7 @@ ghost use Rattle.access.specs.declared.vector.Choice.the-variants as Choices;
 ghost use Rattle.model.specs.Table.{fresh};
 ghost use Rattle.kernel.specs.View.{viewOf};
 ghost use Rattle.kernel.specs.Valid.{Valid};
-ghost use Rattle.laws.specs.Starred.{vector, entries, enterAll, bench};
+ghost use Rattle.laws.specs.Starred.{vector, unit, entries, enterAll, bench};
 use access::domain::KERNEL_DOMAIN;
 use access::vector::Choice;
 use access::vector::Vector;
@@ -16,6 +16,9 @@ use regions::entry::RegionEntry;
 use regions::flag::EXECUTABLE;
 use regions::flag::NO_WRITE;
 use semaphore::entry::SemaphoreEntry;
+
+// The protection unit, of which document 01's regions are made.
+pub const UNIT: u32 = 4_096;
 
 // A vector, given to an entry.
 pub fn given(normal1: u32, normal2: u32, management: u32, reference: u32) -> Choice
@@ -31,9 +34,9 @@ pub fn given(normal1: u32, normal2: u32, management: u32, reference: u32) -> Cho
 
 // Tasks 1 and 4 in domain 1, task 2 in domain 2, task 3 in the kernel.
 fn tasks() -> State
-    ensures { λ r. ⌜ Valid r × (viewOf r ≡ enterAll (fresh (pos 2) .state) (take 4 entries)) ⌝ }
+    ensures { λ r. ⌜ Valid r × (viewOf r ≡ enterAll (fresh (pos 2) unit .state) (take 4 entries)) ⌝ }
 {
-    let mut s = State::fresh(2).state;
+    let mut s = State::fresh(2, UNIT).state;
     s = s.add_task(1).state;
     s = s.add_task(2).state;
     s = s.add_task(KERNEL_DOMAIN).state;

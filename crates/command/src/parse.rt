@@ -1,6 +1,5 @@
 // What a text asks for: its command with its numbers.
 use crate::numbers::Numbers;
-use crate::verb::PATTERNS;
 use crate::verb::Verb;
 use crate::verb::shape_of;
 use crate::verb::verb_of;
@@ -8,6 +7,7 @@ use crate::word;
 use access::vector::Choice;
 use access::vector::Vector;
 use dataqueue::entry::QueueEntry;
+use itron::limit::MIN_UNIT;
 use regions::entry::RegionEntry;
 use semaphore::entry::SemaphoreEntry;
 
@@ -16,7 +16,8 @@ pub enum Command {
     Blank,
     // Not made: an unknown command, a wrong count of words, or a word that is no number that fits.
     Bad,
-    Fresh(i32),
+    // For n user domains, with this protection unit.
+    Fresh(i32, u32),
     Entry(Entry),
     Close,
     // Task T on semaphore I, and on data queue I.
@@ -113,11 +114,17 @@ fn queue_call(numbers: Numbers, call: QueueCall) -> Command {
     Command::Queue(numbers.first, numbers.second, call)
 }
 
-// A command whose words have the right count and whose numbers fit; `given` says that four patterns stand last.
+// The unit of a fresh table, where one is given.
+fn fresh(numbers: Numbers, given: bool) -> Command {
+    let unit = if given { numbers.plain(0) } else { MIN_UNIT };
+    Command::Fresh(numbers.first, unit)
+}
+
+// A command whose words have the right count and whose numbers fit; `given` says that what may be left out is there.
 fn made(verb: Verb, numbers: Numbers, given: bool) -> Command {
     match verb {
         Verb::Unknown => Command::Bad,
-        Verb::Fresh => Command::Fresh(numbers.first),
+        Verb::Fresh => fresh(numbers, given),
         Verb::Task => Command::Entry(Entry::Task(numbers.first)),
         Verb::Semaphore => semaphore_entry(numbers, given),
         Verb::Queue => queue_entry(numbers, given),
@@ -144,13 +151,12 @@ fn made(verb: Verb, numbers: Numbers, given: bool) -> Command {
 fn with_count(text: &[u8], verb: Verb, count: usize) -> Command {
     let takes = shape_of(verb);
     let fewest = takes.signed + takes.unsigned;
-    let given = takes.patterns && count == fewest + PATTERNS;
-    if count != fewest && !given {
+    if count != fewest && count != fewest + takes.optional {
         return Command::Bad;
     }
     let numbers = Numbers::of(text, takes.signed, count);
     if numbers.good {
-        return made(verb, numbers, given);
+        return made(verb, numbers, fewest < count);
     }
     Command::Bad
 }

@@ -27,11 +27,11 @@ pub enum Verb {
     Dump,
 }
 
-// How many signed numbers come first, how many unsigned ones after them, and whether four patterns may follow.
+// How many signed numbers come first, how many unsigned ones after them, and how many more may follow, all or none.
 pub struct Shape {
     pub signed: usize,
     pub unsigned: usize,
-    pub patterns: bool,
+    pub optional: usize,
 }
 
 // The patterns of a vector.
@@ -115,34 +115,35 @@ pub fn verb_of(word: &[u8]) -> Verb {
 }
 
 fn fixed_shape(signed: usize, unsigned: usize) -> Shape
-    ensures { λ r. ⌜ (r .signed ≡ signed) × (r .unsigned ≡ unsigned) ⌝ }
+    ensures { λ r. ⌜ (r .signed ≡ signed) × (r .unsigned ≡ unsigned) × (r .optional ≡ 0) ⌝ }
 {
     Shape {
         signed,
         unsigned,
-        patterns: false,
+        optional: 0,
     }
 }
 
-// An entry's: its domain, its numbers, and its vector where one is given.
-fn entry_shape(unsigned: usize) -> Shape
-    ensures { λ r. ⌜ (r .signed ≡ 1) × (r .unsigned ≡ unsigned) ⌝ }
+// An entry's: its domain, its numbers, and its vector where one is given; a fresh table's: its domains and its unit likewise.
+fn open_shape(unsigned: usize, optional: usize) -> Shape
+    ensures { λ r. ⌜ (r .signed ≡ 1) × (r .unsigned ≡ unsigned) × (r .optional ≡ optional) ⌝ }
 {
     Shape {
         signed: 1,
         unsigned,
-        patterns: true,
+        optional,
     }
 }
 
 pub fn shape_of(verb: Verb) -> Shape
-    ensures { λ r. ⌜ (r .signed ≤ 2) × (r .unsigned ≤ 4) ⌝ }
+    ensures { λ r. ⌜ (r .signed ≤ 2) × (r .unsigned ≤ 4) × (r .optional ≤ 4) ⌝ }
 {
     match verb {
         Verb::Unknown | Verb::Close | Verb::Dump => fixed_shape(0, 0),
-        Verb::Fresh | Verb::Task => fixed_shape(1, 0),
-        Verb::Semaphore | Verb::Region => entry_shape(3),
-        Verb::Queue => entry_shape(2),
+        Verb::Fresh => open_shape(0, 1),
+        Verb::Task => fixed_shape(1, 0),
+        Verb::Semaphore | Verb::Region => open_shape(3, PATTERNS),
+        Verb::Queue => open_shape(2, PATTERNS),
         Verb::SigSem
         | Verb::PolSem
         | Verb::WaiSem

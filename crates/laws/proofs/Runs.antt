@@ -1,20 +1,21 @@
 -- Demand 3 and taking turns hold of every run of the program. Assumes nothing.
 use Prim.Native.Nat.{ℕ, zero, suc, _≤_}
 use mathlib.Core.Path.{_≡_, refl, sym, ap, _∙_, subst}
-use mathlib.Core.Bool.{Bool, true, false}
+use mathlib.Core.Bool.{Bool, true, false, _&&_}
 use mathlib.Core.List.{List, [], _∷_, _++_, map}
 use mathlib.Core.Option.{Option, none, some}
 use lib.IntN.{ℤ, pos, negsuc}
 use lib.Dec.{leb}
 use lib.ListN.{length, drop}
 use Rattle.itron.specs.Codes.{Err}
-use Rattle.itron.specs.Limits.{maxDomains}
+use Rattle.itron.specs.Limits.{maxDomains, minUnit}
 use Rattle.model.specs.Lists.{All, at}
 use Rattle.model.specs.State as Model
 use Rattle.model.specs.State.{Queue, Place, Waiter, noQueue}
 use Rattle.model.specs.Answers.{Out, done, replyOf}
 use Rattle.model.specs.Waits.{waitersAt}
 use Rattle.model.specs.Table.{Entry, task, sem, queue, region, fresh, freshBy, emptyState, enter, enterBy, add, checkEntry, close, closeBy, shut}
+use Rattle.model.specs.Units.{unitOk}
 use Rattle.model.specs.Calls.{Call, call, refer, step}
 use Rattle.model.specs.History.{event, after, history, total}
 use Rattle.model.specs.Demand3.{Demand3, JustClosed}
@@ -38,10 +39,10 @@ use Rattle.laws.specs.Runs.{Built, begun, entered, Said, saidBy, saidIn,
 use Rattle.laws.specs.Claims.{Whole, TakesTurns}
 
 -- ---- before the closing nobody waits and nothing is buffered
-record Idle (s : Model.State) : Type 0 where
-  isOpen : s .fixed .closed ≡ false
-  noWaits : s .waits ≡ []
-  noWords : All (λ (q : Queue). q .buffer ≡ []) (s .queues)
+pub record Idle (s : Model.State) : Type 0 where
+  pub isOpen : s .fixed .closed ≡ false
+  pub noWaits : s .waits ≡ []
+  pub noWords : All (λ (q : Queue). q .buffer ≡ []) (s .queues)
 
 idle-add : (s : Model.State) (i : Entry) → Idle s → Idle (add s i)
 idle-add s (task d) k = record { isOpen = k .isOpen; noWaits = k .noWaits; noWords = k .noWords }
@@ -49,7 +50,7 @@ idle-add s (sem d a b m v) k = record { isOpen = k .isOpen; noWaits = k .noWaits
 idle-add s (queue d a c v) k = record { isOpen = k .isOpen; noWaits = k .noWaits; noWords = all-snoc (λ (q : Queue). q .buffer ≡ []) (s .queues) _ (k .noWords) refl }
 idle-add s (region d a b z v) k = record { isOpen = k .isOpen; noWaits = k .noWaits; noWords = k .noWords }
 
-idle-enter : (s : Model.State) (i : Entry) → Idle s → Idle (enter s i .state)
+pub idle-enter : (s : Model.State) (i : Entry) → Idle s → Idle (enter s i .state)
 unfolding enter
 idle-enter s i k = go (checkEntry s i)
   where
@@ -57,20 +58,20 @@ idle-enter s i k = go (checkEntry s i)
     go (some e) = k
     go none = idle-add s i k
 
-idle-empty : (n : ℕ) → Idle (emptyState n)
-idle-empty n = record { isOpen = refl; noWaits = refl; noWords = tt }
+idle-empty : (n unit : ℕ) → Idle (emptyState n unit)
+idle-empty n unit = record { isOpen = refl; noWaits = refl; noWords = tt }
 
-idle-fresh : (n : ℤ) → Idle (fresh n .state)
+pub idle-fresh : (n : ℤ) (unit : ℕ) → Idle (fresh n unit .state)
 unfolding fresh
-idle-fresh (negsuc n) = idle-empty 0
-idle-fresh (pos n) = go (leb n maxDomains)
+idle-fresh (negsuc k) unit = idle-empty 0 minUnit
+idle-fresh (pos n) unit = go (leb n maxDomains && unitOk unit)
   where
-    go : (b : Bool) → Idle (freshBy b n .state)
-    go true = idle-empty n
-    go false = idle-empty 0
+    go : (b : Bool) → Idle (freshBy b n unit .state)
+    go true = idle-empty n unit
+    go false = idle-empty 0 minUnit
 
 idle : {s : State} → Built s → Idle (viewOf s)
-idle (begun n r g) = subst (λ (m : Model.State). Idle m) (sym (g .seen)) (idle-fresh n)
+idle (begun n unit r g) = subst (λ (m : Model.State). Idle m) (sym (g .seen)) (idle-fresh n unit)
 idle (entered s b i r g) = subst (λ (m : Model.State). Idle m) (sym (g .seen)) (idle-enter (viewOf s) i (idle b))
 
 buffer-of : (l : List Queue) (q : ℕ) → All (λ (x : Queue). x .buffer ≡ []) l → at noQueue l q .buffer ≡ []
@@ -85,11 +86,12 @@ unfolding close
 closes {s} b = ap (λ (c : Bool). closeBy c (viewOf s)) (idle b .isOpen)
 
 -- so it is with a table just closed
+pub idle-closed : (s : Model.State) → Idle s → JustClosed (close s .state)
+unfolding close
+idle-closed s k = subst (λ (c : Bool). JustClosed (closeBy c s .state)) (sym (k .isOpen)) (record { noWaits = k .noWaits; noWords = λ q. buffer-of (s .queues) q (k .noWords) })
+
 pub just-closed : {s : State} {r : Entered} → Built s → Enters s (close (viewOf s)) r → JustClosed (viewOf (r .state))
-just-closed {s} {r} b g =
-    let k = idle b in
-    let e : viewOf (r .state) ≡ shut (viewOf s) = g .seen ∙ ap (λ (o : Out). o .state) (closes b) in
-    subst (λ (m : Model.State). JustClosed m) (sym e) (record { noWaits = k .noWaits; noWords = λ q. buffer-of (viewOf s .queues) q (k .noWords) })
+just-closed {s} b g = subst (λ (m : Model.State). JustClosed m) (sym (g .seen)) (idle-closed (viewOf s) (idle b))
 
 -- ---- a run is the model's run
 pub state-of : {s₀ s : State} {cs : List Call} {l : List Said} → Ran s₀ cs s l → viewOf s ≡ after (viewOf s₀) cs
@@ -159,7 +161,7 @@ turns {s₁} v p e ahead behind w = record { still = still; served = served }
 
 -- ---- no task of a run has a domain above n, so that a pattern's bits above n admit nobody (`above-nobody`)
 pub owners-built : {s : State} → Built s → Owners (viewOf s .fixed)
-owners-built (begun n r g) = subst (λ (m : Model.State). Owners (m .fixed)) (sym (g .seen)) (owners-fresh n)
+owners-built (begun n unit r g) = subst (λ (m : Model.State). Owners (m .fixed)) (sym (g .seen)) (owners-fresh n unit)
 owners-built (entered s b i r g) = subst (λ (m : Model.State). Owners (m .fixed)) (sym (g .seen)) (owners-enter (viewOf s) i (owners-built b))
 
 pub owners-closed : {s : State} {r : Entered} → Built s → Enters s (close (viewOf s)) r → Owners (viewOf (r .state) .fixed)

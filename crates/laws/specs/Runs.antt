@@ -1,4 +1,5 @@
 -- Runs of the program: building the table, closing it, and a list of calls, each on the state that the one before gave. Definitions only.
+use Prim.Native.Nat.{ℕ}
 use mathlib.Core.Path.{_≡_}
 use mathlib.Core.Bool.{false}
 use mathlib.Core.List.{List, [], _∷_}
@@ -19,7 +20,7 @@ use Rattle.kernel.specs.Promises.{Begins, Enters, Does, TellsSemaphore, TellsQu
 
 -- a state that fresh and any entries, refused ones included, have given
 pub data Built : State → Type 0 where
-  begun : (n : ℤ) (r : Entered) → Begins n r → Built (r .state)
+  begun : (n : ℤ) (unit : ℕ) (r : Entered) → Begins n unit r → Built (r .state)
   entered : (s : State) → Built s → (i : Entry) (r : Entered) → Enters s (enter (viewOf s) i) r → Built (r .state)
 
 -- what an answer says: outcome, word and released task, and what a refer tells

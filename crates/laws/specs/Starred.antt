@@ -19,9 +19,12 @@ use Rattle.model.specs.declared.Patience.the-variants.{Polling, Forever}
 abbrev pub vector : ℕ → ℕ → ℕ → ℕ → Vector
 vector a b c d = record { normal1 = a; normal2 = b; management = c; reference = d }
 
--- ---- n = 2; tasks 1 and 4 in domain 1, task 2 in domain 2, task 3 in the kernel; semaphore 1, queues 1 and 2; regions 1 and 2
+-- ---- n = 2, unit 4,096; tasks 1 and 4 in domain 1, task 2 in domain 2, task 3 in the kernel; semaphore 1, queues 1 and 2; regions 1 and 2
 abbrev pub kernelDomain : ℤ
 kernelDomain = negsuc 0
+
+abbrev pub unit : ℕ
+unit = 4096
 
 abbrev pub entries : List Entry
 entries =
@@ -38,7 +41,7 @@ enterAll s [] = s
 enterAll s (i ∷ l) = enterAll (enter s i .state) l
 
 unfoldable pub bench : Model.State
-bench = close (enterAll (fresh (pos 2) .state) entries) .state
+bench = close (enterAll (fresh (pos 2) unit .state) entries) .state
 
 -- ---- what is done, one after the other
 pub data Item : Type 0 where

@@ -1,5 +1,6 @@
 // Commands from standard input, one to a line, made on the kernel; each with its answer on standard output (docs/replay.md).
 ghost use Rattle.kernel.specs.Valid.{Valid};
+use itron::limit::MIN_UNIT;
 use kernel::state::State;
 use report::output::BLOCK;
 use session::Session;
@@ -26,5 +27,5 @@ fn run(start: State)
 }
 
 fn main() {
-    run(State::fresh(0).state);
+    run(State::fresh(0, MIN_UNIT).state);
 }

@@ -138,7 +138,7 @@ pub fn perform(out: &mut [u8; BLOCK], at: usize, state: State, command: Command)
             let at = put(out, at, b"bad line");
             told(out, at, state)
         }
-        Command::Fresh(n) => entered(out, at, State::fresh(n)),
+        Command::Fresh(n, unit) => entered(out, at, State::fresh(n, unit)),
         Command::Entry(entry) => enter(out, at, state, entry),
         Command::Close => entered(out, at, state.close()),
         Command::Semaphore(task, id, call) => call_semaphore(out, at, state, task, id, call),

@@ -208,5 +208,6 @@ pub fn put_counts(out: &mut [u8; BLOCK], at: usize, state: State) -> usize
     let at = put_named(out, at, b" sems=", summary.semaphores as u64);
     let at = put_named(out, at, b" dtqs=", summary.queues as u64);
     let at = put_named(out, at, b" mems=", summary.regions as u64);
+    let at = put_named(out, at, b" unit=", summary.unit as u64);
     put_byte(out, at, LF)
 }

@@ -12,7 +12,7 @@ pub const REGION_SIZE: u32 = 4096;
 pub fn all_regions() -> State
     ensures { λ r. ⌜ Valid r ⌝ }
 {
-    let mut s = State::fresh(2).state;
+    let mut s = State::fresh(2, REGION_SIZE).state;
     let mut base: u32 = 0;
     let mut i: usize = 0;
     while i < MAX_REGIONS {
