@@ -27,6 +27,7 @@ pub const MAX_REGIONS: usize = 64;
 pub const MAX_WORDS: usize = 2_048;
 pub const MAX_SEMAPHORE_COUNT: u32 = 65_535;
 pub const MAX_QUEUE_CAPACITY: u32 = 256;
+pub const MAX_UNIT: u32 = 65_536;
 
 pub const TDOM_KERNEL: i32 = -1;
 pub const TDOM_NONE: i32 = -2;
@@ -263,6 +264,7 @@ impl Region {
 /// The whole kernel; the domain of an object is not kept, as only its default vector needs it.
 pub struct Kernel {
     domains: i32,
+    unit: u32,
     closed: bool,
     tasks: Table<Task, MAX_TASKS>,
     semaphores: Table<Semaphore, MAX_SEMAPHORES>,
@@ -277,6 +279,7 @@ impl Kernel {
     /// A constant, so that a host's kernel can be set up without a copy.
     pub const EMPTY: Kernel = Kernel {
         domains: 0,
+        unit: 1,
         closed: false,
         tasks: Table::empty(NO_TASK),
         semaphores: Table::empty(NO_SEMAPHORE),
@@ -286,11 +289,13 @@ impl Kernel {
         words_used: 0,
     };
 
-    /// Starts anew; a refused n leaves the empty table for n = 0.
-    pub fn fresh(&mut self, n: i32) -> Check {
+    /// Starts anew; a refused n or unit leaves the empty table for n = 0 and unit 1.
+    pub fn fresh(&mut self, n: i32, unit: u32) -> Check {
         *self = Kernel::EMPTY;
         ensure((0..=MAX_DOMAINS).contains(&n), E_PAR)?;
+        ensure(unit.is_power_of_two() && unit <= MAX_UNIT, E_PAR)?;
         self.domains = n;
+        self.unit = unit;
         Ok(())
     }
 
@@ -338,6 +343,7 @@ impl Kernel {
         ensure(atr & !(TA_RO | TA_EXEC) == 0, E_RSATR)?;
         let region = Region { base, size, atr, vector: vector.unwrap_or(Vector::default_of(domain)) };
         ensure(size > 0 && region.end() <= ADDRESSES, E_PAR)?;
+        ensure(base % self.unit == 0 && size % self.unit == 0, E_PAR)?;
         let end_before = self.regions.entries[..self.regions.count].last().map_or(0, Region::end);
         ensure(u64::from(base) >= end_before, E_OBJ)?;
         self.regions.add(region);

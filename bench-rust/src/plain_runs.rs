@@ -26,9 +26,12 @@ pub const WAITING: Er = 1;
 
 pub type Answer = [u32; ANSWER_WORDS];
 
+/// The protection unit of the tables.
+const PAGE: u32 = 0x1000;
+
 /// Built where it stays: a kernel handed back by value would be copied.
 fn build(kernel: &mut Kernel, n: i32, entries: impl Fn(&mut Kernel) -> Check) {
-    let built = kernel.fresh(n).and_then(|()| entries(kernel)).and_then(|()| kernel.close());
+    let built = kernel.fresh(n, PAGE).and_then(|()| entries(kernel)).and_then(|()| kernel.close());
     built.expect("a good table");
 }
 

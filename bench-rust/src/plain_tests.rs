@@ -1,4 +1,4 @@
-//! The bench runs of document 01, with the limits of request T-07, on the ordinary kernel.
+//! The bench runs of document 01, with the limits of request T-07 and the units of T-06, on the ordinary kernel.
 
 use crate::plain::*;
 use crate::plain_runs::bench_table;
@@ -41,7 +41,7 @@ fn run_q() {
 #[test]
 fn table_and_numbers() {
     let mut k = Kernel::EMPTY;
-    assert_eq!([k.fresh(32), k.fresh(33), k.add_task(1)], [Ok(()), Err(E_PAR), Err(E_ID)]);
+    assert_eq!([k.fresh(32, 1), k.fresh(33, 1), k.add_task(1)], [Ok(()), Err(E_PAR), Err(E_ID)]);
     assert_eq!(k.add_semaphore(TDOM_NONE, 0, 0, 65_535, None), Ok(()));
     assert_eq!([(0, 65_536), (2, 1)].map(|(start, max)| k.add_semaphore(-1, 0, start, max, None)), [Err(E_PAR); 2]);
     assert_eq!([256; 8].map(|capacity| k.add_queue(TDOM_KERNEL, 0, capacity, None)), [Ok(()); 8]);
@@ -59,7 +59,7 @@ fn table_and_numbers() {
 #[test]
 fn regions() {
     let mut k = Kernel::EMPTY;
-    assert_eq!(k.fresh(2), Ok(()));
+    assert_eq!(k.fresh(2, 1), Ok(()));
     assert_eq!(k.add_region(-1, TA_RO | TA_EXEC, 0x1000, 0x1000, Some(Vector::new(0, 3, 0, 3))), Ok(()));
     assert_eq!(k.add_region(-1, 0, 0x1FFF, 0x1000, None), Err(E_OBJ));
     assert_eq!(k.add_region(-1, 0, 0x2000, 0x1000, Some(Vector::new(1, 1, 0, 1))), Ok(()));
@@ -69,4 +69,19 @@ fn regions() {
     assert_eq!([reads(0x3000, 1), reads(0x3000, 0)], [Err(E_NOEXS), Err(E_PAR)]);
     assert_eq!(k.prb_mem(TDOM_KERNEL, 0x1000, 1, TPM_WRITE), Err(E_MACV));
     assert_eq!([reads(0xFFFF_FFFF, 1), reads(0xFFFF_FFFF, 2)], [Err(E_NOEXS), Err(E_PAR)]);
+}
+
+#[test]
+fn units() {
+    let mut k = Kernel::EMPTY;
+    assert_eq!([1, 2, 4_096, 65_536].map(|unit| k.fresh(2, unit)), [Ok(()); 4]);
+    assert_eq!([0, 3, 4_095, 65_537, 131_072, u32::MAX].map(|unit| k.fresh(2, unit)), [Err(E_PAR); 6]);
+    assert_eq!([k.add_task(1), k.add_region(-1, 0, 1, 1, None)], [Err(E_ID), Ok(())]);
+    assert_eq!([k.fresh(33, 4_096), k.fresh(2, 4_096)], [Err(E_PAR), Ok(())]);
+    let regions =
+        [(0x800, 0x1000), (0x1000, 0x800), (0x1000, 0x1000), (0x801, 0x1000), (0, 0x1000), (0xFFFF_F000, 0x1000)];
+    assert_eq!(
+        regions.map(|(base, size)| k.add_region(-1, 0, base, size, None)),
+        [Err(E_PAR), Err(E_PAR), Ok(()), Err(E_PAR), Err(E_OBJ), Ok(())]
+    );
 }

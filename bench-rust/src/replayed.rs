@@ -100,11 +100,14 @@ fn entry(random: &mut Random, kernel: &mut Kernel, script: &mut Script, top: &mu
             script.add(format!("dtq {domain} {atr} {capacity}{given}"), answer);
         }
         _ => {
-            let base = random.mostly(*top, 6, &[0, 0x1000, 0xFFFF_F000, u32::MAX]);
-            let size = random.mostly(0x1000, 3, &[0, 1, 0x800, 0x1001, u32::MAX]);
-            let answer = code(kernel.add_region(domain, atr, base, size, vector));
-            *top = base.saturating_add(size).max(*top);
-            script.add(format!("mem {domain} {atr} {base} {size}{given}"), answer);
+            let odd = random.pick(&[0, 0x800, 0x1000, *top / 2, top.saturating_add(1), 0xFFFF_F000, u32::MAX]);
+            let base = random.mostly(*top, 9, &[odd]);
+            let size = random.mostly(0x1_0000, 3, &[0, 1, 0x800, 0x1000, 0x1001, 0x2_0000, u32::MAX]);
+            let answer = kernel.add_region(domain, atr, base, size, vector);
+            if answer.is_ok() {
+                *top = base.saturating_add(size);
+            }
+            script.add(format!("mem {domain} {atr} {base} {size}{given}"), code(answer));
         }
     }
 }
@@ -149,15 +152,23 @@ fn verdict(random: &mut Random, kernel: &mut Kernel, script: &mut Script, top: u
     script.add(format!("prb_mem {domain} {base} {size} {wish}"), code(kernel.prb_mem(domain, base, size, wish)));
 }
 
+/// Units that a fresh table takes, or none given, and units that it refuses.
+const UNITS: [Option<u32>; 8] = [None, None, Some(1), Some(2), Some(0x800), Some(0x1000), Some(0x1000), Some(MAX_UNIT)];
+const NO_UNITS: [Option<u32>; 6] =
+    [Some(0), Some(3), Some(4_095), Some(MAX_UNIT + 1), Some(2 * MAX_UNIT), Some(u32::MAX)];
+
 /// A table, mostly closed, then calls and verdicts.
 fn random_script(random: &mut Random) -> Script {
     let (mut script, mut kernel, mut top) = (Script::default(), Kernel::EMPTY, 0);
     let n = random.mostly(2, 6, &ENDS);
-    script.add(format!("fresh {n}"), code(kernel.fresh(n)));
+    let good = random.pick(&UNITS);
+    let unit = random.mostly(good, 9, &NO_UNITS);
+    let given = unit.map_or(String::new(), |unit| format!(" {unit}"));
+    script.add(format!("fresh {n}{given}"), code(kernel.fresh(n, unit.unwrap_or(1))));
     for domain in [1, 2, TDOM_KERNEL, 1, 1, 2] {
         script.add(format!("task {domain}"), code(kernel.add_task(domain)));
     }
-    // The largest number fills tasks, semaphores and queues up; regions run out of addresses first.
+    // The largest number can fill every kind up.
     for _ in 0..random.pick(&[8, 20, 90, 1_500]) {
         entry(random, &mut kernel, &mut script, &mut top);
     }

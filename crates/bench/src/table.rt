@@ -20,14 +20,14 @@ use text::print::heading;
 use text::print::named;
 
 // A unit with which document 01's regions are right.
-const UNIT: u32 = 4_096;
+pub const PAGE: u32 = 4_096;
 
 // Tasks, semaphore and queues of all runs, and the regions; document 01 leaves the owners open.
 pub fn closed() -> State
     ensures { λ r. ⌜ Valid r ⌝ }
 {
     heading(b"The table of all runs");
-    let mut s = fresh(2, UNIT);
+    let mut s = fresh(2, PAGE);
     s = add_task(s, 1);
     s = add_task(s, 2);
     s = add_task(s, KERNEL_DOMAIN);

@@ -5,15 +5,13 @@ use crate::entries::add_region;
 use crate::entries::add_task;
 use crate::entries::close;
 use crate::entries::fresh;
+use crate::table::PAGE;
 use access::domain::KERNEL_DOMAIN;
 use access::vector::Choice;
-use itron::limit::MAX_UNIT;
 use kernel::state::State;
 use regions::flag::NO_WRITE;
 use regions::flag::READ;
 use text::print::heading;
-
-const PAGE: u32 = 4_096;
 
 // The first address of the last page.
 const TOP: u32 = 0xffff_f000;
@@ -35,12 +33,12 @@ const TRIED: [u32; 10] = [
     1,
     2,
     3,
-    PAGE - 1,
-    PAGE,
-    MAX_UNIT,
-    MAX_UNIT + 1,
-    2 * MAX_UNIT,
-    0xffff_ffff,
+    4_095,
+    4_096,
+    65_536,
+    65_537,
+    131_072,
+    4_294_967_295,
 ];
 
 fn which() {

@@ -114,7 +114,7 @@ fn queue_call(numbers: Numbers, call: QueueCall) -> Command {
     Command::Queue(numbers.first, numbers.second, call)
 }
 
-// The unit of a fresh table, where one is given.
+// A fresh table; its unit is 1 where none is given.
 fn fresh(numbers: Numbers, given: bool) -> Command {
     let unit = if given { numbers.plain(0) } else { MIN_UNIT };
     Command::Fresh(numbers.first, unit)

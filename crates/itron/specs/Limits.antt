@@ -34,10 +34,11 @@ maxCount = 65535
 abbrev pub addressEnd : ℕ
 addressEnd = 4294967296
 
--- a protection unit is a power of two, from 1 up to 2 to this power
+-- the finest protection unit
 abbrev pub minUnit : ℕ
 minUnit = 1
 
+-- a unit is a power of two, up to 2 to this power
 abbrev pub maxUnitPower : ℕ
 maxUnitPower = 16
 

@@ -55,6 +55,7 @@ impl State {
         ensures { λ r. ⌜ Begins n unit r ⌝ }
     {
         let domains = ordinal(n, MAX_DOMAINS);
+        // `ordinal` gives 0 for a bad n, and for n = 0, which is good.
         let counted = (n == 0) | (domains != 0);
         if !(counted & is_unit(unit)) {
             return State::empty(0, MIN_UNIT).enter(E_PAR);

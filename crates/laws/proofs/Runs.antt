@@ -12,7 +12,7 @@ use Rattle.itron.specs.Limits.{maxDomains, minUnit}
 use Rattle.model.specs.Lists.{All, at}
 use Rattle.model.specs.State as Model
 use Rattle.model.specs.State.{Queue, Place, Waiter, noQueue}
-use Rattle.model.specs.Answers.{Out, done, replyOf}
+use Rattle.model.specs.Answers.{done, replyOf}
 use Rattle.model.specs.Waits.{waitersAt}
 use Rattle.model.specs.Table.{Entry, task, sem, queue, region, fresh, freshBy, emptyState, enter, enterBy, add, checkEntry, close, closeBy, shut}
 use Rattle.model.specs.Units.{unitOk}

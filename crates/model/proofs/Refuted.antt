@@ -1,12 +1,12 @@
 -- What demand 3 shuts out: for each such thing a history of answers that it refutes. Closed computations; assumes nothing.
 use mathlib.Core.Path.{_≡_, ap}
-use Rattle.itron.specs.Limits.{minUnit}
 use mathlib.Core.Bool.{true}
 use mathlib.Core.List.{List, [], _∷_, map}
 use Prim.Native.Nat.{ℕ}
 use native.Mathlib.Omega.{arith}
 use lib.IntN.{pos, negsuc}
 use lib.ListN.{length, getD}
+use Rattle.itron.specs.Limits.{minUnit}
 use Rattle.access.specs.Patterns.{admitted}
 use Rattle.itron.specs.Codes.{Code, ok, waiting, error, eOacv}
 use Rattle.model.specs.State.{Vector, Side, onSem, receiving, sending, Place, Waiter, State, waiter}

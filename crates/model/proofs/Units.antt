@@ -52,7 +52,7 @@ unit-pos u h = let p = unit-tells u .yes h in subst (λ (x : ℕ). 0 < x) (sym (
 pub multiple-tells : (unit x : ℕ) → Tells (isMultiple unit x) (unit ∣ x)
 multiple-tells unit x = record { yes = λ h. dvd-of-mod-eq-zero unit (eq-of (x % unit) 0 h); no = λ h p. ne-of (x % unit) 0 h (mod-eq-zero-of-dvd unit p) }
 
--- the smallest unit is one
+-- the finest unit is a unit
 pub unit-one : unitOk minUnit ≡ true
 unfolding unitOk
 unit-one = refl

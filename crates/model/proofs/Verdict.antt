@@ -199,3 +199,11 @@ ok-only s d base size w h = go (holder (s .fixed .regions) base) refl (h₃ .1)
         let p = passed-by (le-tells (base + size) (r .base + r .size)) eObj _ k in
         let g = passed-by (allows-tells r d w) eMacv none (p .1) in
         record { closed = h₁ .0; asker = h₂ .0; area = h₃ .0; region = r; at = holder-is (s .fixed .regions) base r e; inside = p .0; granted = g .0 }
+
+-- "The unit restricts entries, not the verdict's area": a table with another unit and the same regions has the same verdicts
+abbrev withUnit : State → ℕ → State
+withUnit s u = record { fixed = record { closed = s .fixed .closed; count = s .fixed .count; unit = u; domains = s .fixed .domains; regions = s .fixed .regions }; waits = s .waits; sems = s .sems; queues = s .queues }
+
+pub any-unit : (s : State) (u : ℕ) (d : ℤ) (base size w : ℕ) → verdict (withUnit s u) d base size w ≡ verdict s d base size w
+unfolding verdict
+any-unit s u d base size w = refl

@@ -62,7 +62,7 @@ pub record RegionsFit (regions : List Region) : Type 0 where
   pub bounded : All Bounded regions
   pub ascending : Ascending regions
 
--- ---- the protection unit is one, and each region is made of whole units
+-- ---- the protection unit is a power of two within its limit, and each region is made of whole units
 abbrev pub Whole : ℕ → Region → Type 0
 Whole unit r = (unit ∣ r .base) × (unit ∣ r .size)
 

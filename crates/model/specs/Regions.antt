@@ -21,11 +21,11 @@ end r = r .base + r .size
 abbrev pub attributeOk : ℕ → Bool
 attributeOk a = eqb a 0 || eqb a 1 || eqb a 4 || eqb a 5
 
--- 5. region size at least 1 and base + size at most 2^32
+-- an area: size at least 1 and base + size at most 2^32
 abbrev pub isArea : ℕ → ℕ → Bool
 isArea base size = leb 1 size && leb (base + size) addressEnd
 
--- and base and size multiples of the protection unit
+-- 5. the region is an area, with base and size multiples of the protection unit
 abbrev pub numbersOk : ℕ → ℕ → ℕ → Bool
 numbersOk unit base size = isArea base size && isWhole unit base size
 

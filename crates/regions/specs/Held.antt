@@ -14,5 +14,5 @@ pub record Held (r : Regions) : Type 0 where
   pub form : r ≡ regionsAs (r .unit) (regionsOf r)
   pub fit : RegionsFit (regionsOf r)
   pub power : unitOk (r .unit) ≡ true
-  -- follows from the two; it stands here for the indexes
+  -- follows from form and fit; it stands here for the indexes
   pub few : r .count ≤ maxRegions

@@ -28,12 +28,12 @@ impl Protection {
 
 // The first `count` cells of each array are used, the others are zeros. Bases and sizes are arrays of numbers, so that they can be lent.
 pub struct Regions {
-    // The protection unit, of which every region is made.
-    pub(crate) unit: u32,
     pub(crate) count: usize,
     pub(crate) bases: [u32; MAX_REGIONS],
     pub(crate) sizes: [u32; MAX_REGIONS],
     pub(crate) protections: [Protection; MAX_REGIONS],
+    // The protection unit, of which every region is made.
+    pub(crate) unit: u32,
 }
 
 // A region as it is shown; all zeros where there is none.
@@ -60,11 +60,11 @@ impl Regions {
         ensures { λ r. ⌜ r ≡ regionsAs unit [] ⌝ }
     {
         Regions {
-            unit,
             count: 0,
             bases: [0; MAX_REGIONS],
             sizes: [0; MAX_REGIONS],
             protections: [Protection::NONE; MAX_REGIONS],
+            unit,
         }
     }
 
