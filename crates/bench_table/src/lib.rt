@@ -18,7 +18,7 @@ use regions::flag::NO_WRITE;
 use semaphore::entry::SemaphoreEntry;
 
 // The protection unit, of which document 01's regions are made.
-pub const UNIT: u32 = 4_096;
+const UNIT: u32 = 4_096;
 
 // A vector, given to an entry.
 pub fn given(normal1: u32, normal2: u32, management: u32, reference: u32) -> Choice

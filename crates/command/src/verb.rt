@@ -125,7 +125,7 @@ fn fixed_shape(signed: usize, unsigned: usize) -> Shape
 }
 
 // An entry's: its domain, its numbers, and its vector where one is given; a fresh table's: its domains and its unit likewise.
-fn open_shape(unsigned: usize, optional: usize) -> Shape
+fn optional_shape(unsigned: usize, optional: usize) -> Shape
     ensures { λ r. ⌜ (r .signed ≡ 1) × (r .unsigned ≡ unsigned) × (r .optional ≡ optional) ⌝ }
 {
     Shape {
@@ -140,10 +140,10 @@ pub fn shape_of(verb: Verb) -> Shape
 {
     match verb {
         Verb::Unknown | Verb::Close | Verb::Dump => fixed_shape(0, 0),
-        Verb::Fresh => open_shape(0, 1),
+        Verb::Fresh => optional_shape(0, 1),
         Verb::Task => fixed_shape(1, 0),
-        Verb::Semaphore | Verb::Region => open_shape(3, PATTERNS),
-        Verb::Queue => open_shape(2, PATTERNS),
+        Verb::Semaphore | Verb::Region => optional_shape(3, PATTERNS),
+        Verb::Queue => optional_shape(2, PATTERNS),
         Verb::SigSem
         | Verb::PolSem
         | Verb::WaiSem
