@@ -1,4 +1,5 @@
 pub mod Ordinals
+pub mod Equals
 pub mod Patterns
 pub mod Vectors
 pub mod Audits

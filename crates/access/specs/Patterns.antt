@@ -15,6 +15,13 @@ unfoldable pub ordinalOf : ℤ → ℕ → ℕ
 ordinalOf (pos k) limit = pick (leb k limit) k 0
 ordinalOf (negsuc k) limit = 0
 
+-- whether two domain numbers are the same
+abbrev pub sameDomain : ℤ → ℤ → Bool
+sameDomain (pos m) (pos n) = eqb m n
+sameDomain (pos m) (negsuc n) = false
+sameDomain (negsuc m) (pos n) = false
+sameDomain (negsuc m) (negsuc n) = eqb m n
+
 -- "All zeros is kernel only, all ones is shared"
 abbrev pub allZeros : ℕ
 allZeros = 0

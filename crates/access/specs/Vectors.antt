@@ -1,7 +1,8 @@
 -- Vectors: four patterns (document 01, "Patterns and vectors"). Definitions only.
 use Prim.Native.Nat.{ℕ, zero, suc, _^_}
+use mathlib.Core.Bool.{Bool, _&&_}
 use lib.IntN.{ℤ, pos, negsuc}
-use lib.Dec.{ltb}
+use lib.Dec.{ltb, eqb}
 use Rattle.itron.specs.Limits.{maxDomains}
 use Rattle.access.specs.Patterns.{pick, allZeros, allOnes}
 use Rattle.access.specs.declared.vector.Vector.{Vector}
@@ -16,6 +17,10 @@ patternOf v Normal1 = v .normal1
 patternOf v Normal2 = v .normal2
 patternOf v Management = v .management
 patternOf v Reference = v .reference
+
+-- whether all four patterns are the same
+abbrev pub sameVector : Vector → Vector → Bool
+sameVector v w = eqb (v .normal1) (w .normal1) && eqb (v .normal2) (w .normal2) && eqb (v .management) (w .management) && eqb (v .reference) (w .reference)
 
 -- the same pattern four times
 abbrev pub uniform : ℕ → Vector

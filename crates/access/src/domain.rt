@@ -1,6 +1,6 @@
 // Domain numbers: special domains are below zero, user domains count from 1.
 ghost use mathlib.Core.Path.{_≡_};
-ghost use Rattle.access.specs.Patterns.{ordinalOf};
+ghost use Rattle.access.specs.Patterns.{ordinalOf, sameDomain};
 
 pub const KERNEL_DOMAIN: i32 = -1;
 
@@ -19,4 +19,11 @@ pub fn ordinal(number: i32, limit: usize) -> usize
         return 0;
     }
     n
+}
+
+// Whether two domain numbers are the same.
+pub fn is_same(domain: i32, other: i32) -> bool
+    ensures { λ r. ⌜ r ≡ sameDomain domain other ⌝ }
+{
+    domain == other
 }

@@ -1,6 +1,6 @@
 // Access vectors: a pattern for each kind of operation.
 ghost use mathlib.Core.Path.{_≡_};
-ghost use Rattle.access.specs.Vectors.{patternOf, privateOf, defaultOf, resolved};
+ghost use Rattle.access.specs.Vectors.{patternOf, sameVector, privateOf, defaultOf, resolved};
 use crate::domain::NO_DOMAIN;
 use crate::domain::ordinal;
 use itron::limit::MAX_DOMAINS;
@@ -61,6 +61,16 @@ impl Vector {
             return Vector::SHARED;
         }
         Vector::private(domain)
+    }
+
+    // Whether all four patterns are the same.
+    pub fn equals(self, other: Vector) -> bool
+        ensures { λ r. ⌜ r ≡ sameVector self other ⌝ }
+    {
+        (self.normal1 == other.normal1)
+            & (self.normal2 == other.normal2)
+            & (self.management == other.management)
+            & (self.reference == other.reference)
     }
 
     pub fn pattern(self, operation: Operation) -> u32

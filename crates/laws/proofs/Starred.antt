@@ -6,7 +6,7 @@ use Rattle.access.specs.Patterns.{admitted}
 use Rattle.model.specs.State.{State}
 use Rattle.model.specs.Table.{Entry, enter, fresh, close}
 use Rattle.model.specs.Units.{unitOk}
-use Rattle.model.specs.Regions.{holder, judge}
+use Rattle.model.specs.Regions.{inChain, fromHolder, judge}
 use Rattle.model.specs.Verdict.{verdict}
 use Rattle.model.specs.Calls.{check, step}
 use Rattle.model.specs.Demand3.{JustClosed}
@@ -14,7 +14,7 @@ use Rattle.laws.specs.Starred.{Step, unit, entries, enterAll, bench, run
 use Rattle.laws.proofs.Runs.{Idle, idle-enter, idle-fresh, idle-closed}
 
 pub starred-runs : run bench (map (λ (x : Step). x .item) starred) ≡ map (λ (x : Step). x .result) starred
-unfolding run bench step check admitted enter fresh unitOk close verdict judge holder
+unfolding run bench step check admitted enter fresh unitOk close verdict judge fromHolder inChain
 starred-runs = refl
 
 -- in this table nobody waits and nothing is buffered

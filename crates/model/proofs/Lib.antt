@@ -1,5 +1,6 @@
 pub mod Lists
 pub mod Tests
+pub mod Chains
 pub mod Units
 pub mod Cases
 pub mod Answers
@@ -11,6 +12,7 @@ pub mod Table
 pub mod Demand3
 pub mod Turns
 pub mod Verdict
+pub mod Merged
 pub mod Entries
 pub mod Bounds
 pub mod Refers

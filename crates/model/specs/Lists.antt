@@ -1,6 +1,6 @@
 -- Lists whose elements are numbered from 1, and choosing from lists. Definitions only.
-use mathlib.Core.Bool.{Bool, true, false}
-use mathlib.Core.List.{List, [], _∷_}
+use mathlib.Core.Bool.{Bool, true, false, _||_}
+use mathlib.Core.List.{List, [], _∷_, map}
 use Prim.Native.Nat.{ℕ, zero, suc}
 use lib.ListN.{getD, set}
 
@@ -29,6 +29,16 @@ module _ {A : Type 0} where
   abbrev pub only : Bool → List A → List A
   only true l = l
   only false l = []
+
+  -- whether an element passes a test
+  abbrev pub anyOf : (A → Bool) → List A → Bool
+  anyOf p [] = false
+  anyOf p (x ∷ l) = p x || anyOf p l
+
+  -- what a list begins with: its first element, its first two, .. all of them
+  abbrev pub beginnings : List A → List (List A)
+  beginnings [] = []
+  beginnings (x ∷ l) = (x ∷ []) ∷ map (λ (b : List A). x ∷ b) (beginnings l)
 
   -- a claim about every element
   abbrev pub All : (A → Type 0) → List A → Type 0

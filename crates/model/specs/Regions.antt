@@ -5,9 +5,11 @@ use mathlib.Core.Option.{Option, none, some}
 use Prim.Native.Nat.{ℕ, _+_}
 use lib.Dec.{eqb, leb, ltb}
 use lib.IntN.{ℤ}
-use Rattle.access.specs.Patterns.{admitted, bitAt}
+use Rattle.access.specs.Patterns.{pick, sameDomain, admitted, bitAt}
+use Rattle.access.specs.Vectors.{sameVector}
 use Rattle.itron.specs.Codes.{Err, ePar, eNoexs, eObj, eMacv}
 use Rattle.itron.specs.Limits.{addressEnd}
+use Rattle.model.specs.Lists.{anyOf, beginnings}
 use Rattle.model.specs.State.{Region}
 use Rattle.model.specs.Answers.{refuseIf}
 use Rattle.model.specs.Units.{isWhole}
@@ -38,6 +40,29 @@ lastEnd (r ∷ (x ∷ l)) = lastEnd (x ∷ l)
 -- 6. a region starting below the end of the region entered before it: E_OBJ
 abbrev pub placeOk : List Region → ℕ → Bool
 placeOk rs base = leb (lastEnd rs) base
+
+-- ---- regions that count as one (document 02, T-09)
+-- one region ends where the next begins
+abbrev pub touches : Region → Region → Bool
+touches r x = eqb (end r) (x .base)
+
+-- equal in domain, attributes and vector
+abbrev pub isEqual : Region → Region → Bool
+isEqual r x = sameDomain (r .domain) (x .domain) && eqb (r .attribute) (x .attribute) && sameVector (r .vector) (x .vector)
+
+-- a chain: each region touches the next and is equal to it
+abbrev pub isChain : List Region → Bool
+isChain [] = true
+isChain (r ∷ []) = true
+isChain (r ∷ (x ∷ rs)) = (touches r x && isEqual r x) && isChain (x ∷ rs)
+
+-- whether regions are a chain that goes up to an address
+abbrev pub isChainTo : ℕ → List Region → Bool
+isChainTo a rs = isChain rs && leb a (lastEnd rs)
+
+-- whether an area that starts in the first of the regions and ends at an address lies within a chain, of any length, of regions from the first on
+unfoldable pub inChain : List Region → ℕ → Bool
+inChain rs a = anyOf (isChainTo a) (beginnings rs)
 
 -- ---- the verdict
 -- the attribute bits: no-write (1) and execute (4)
@@ -84,19 +109,15 @@ allows r d w = grants (wantsWrite w) (mayWrite r d) && grants (wantsRead w) (may
 abbrev pub holds : ℕ → Region → Bool
 holds a r = leb (r .base) a && ltb a (end r)
 
-abbrev pub orElse : Bool → Region → Option Region → Option Region
-orElse true r o = some r
-orElse false r o = o
+-- the regions from the one that holds an address on; none where no region holds it
+unfoldable pub fromHolder : List Region → ℕ → List Region
+fromHolder [] a = []
+fromHolder (r ∷ rs) a = pick (holds a r) (r ∷ rs) (fromHolder rs a)
 
--- the region that holds an address, if there is one
-unfoldable pub holder : List Region → ℕ → Option Region
-holder [] a = none
-holder (r ∷ rs) a = orElse (holds a r) r (holder rs a)
-
--- no region holds the base: E_NOEXS; the area leaves that region: E_OBJ; a wish denied: E_MACV
-abbrev pub judgeIn : Option Region → ℤ → ℕ → ℕ → ℕ → Option Err
-judgeIn none d base size w = some eNoexs
-judgeIn (some r) d base size w = refuseIf (not (leb (base + size) (end r))) eObj (refuseIf (not (allows r d w)) eMacv none)
+-- no region holds the base: E_NOEXS; the area leaves the chain of that region: E_OBJ; a wish denied: E_MACV
+abbrev pub judgeIn : List Region → ℤ → ℕ → ℕ → ℕ → Option Err
+judgeIn [] d base size w = some eNoexs
+judgeIn (r ∷ rs) d base size w = refuseIf (not (inChain (r ∷ rs) (base + size))) eObj (refuseIf (not (allows r d w)) eMacv none)
 
 -- size 0, unknown or no wish, base + size above 2^32: E_PAR
 abbrev pub areaOk : ℕ → ℕ → ℕ → Bool
@@ -104,4 +125,4 @@ areaOk base size w = leb 1 size && wishesOk w && leb (base + size) addressEnd
 
 -- the verdict on a closed table for a known domain
 unfoldable pub judge : List Region → ℤ → ℕ → ℕ → ℕ → Option Err
-judge rs d base size w = refuseIf (not (areaOk base size w)) ePar (judgeIn (holder rs base) d base size w)
+judge rs d base size w = refuseIf (not (areaOk base size w)) ePar (judgeIn (fromHolder rs base) d base size w)

@@ -1,19 +1,20 @@
 -- Laws of the checks of an entry and of the verdict, in the form in which the code tests. Assumes nothing.
 use Prim.Native.Nat.{ℕ, zero, suc, _+_, _-_, _<_}
 use native.Mathlib.Omega.{arith}
-use mathlib.Core.Path.{_≡_, refl, sym, ap, _∙_}
+use mathlib.Core.Path.{_≡_, refl, sym, ap, _∙_, subst}
 use mathlib.Core.Bool.{Bool, true, false, not, _&&_}
 use mathlib.Core.List.{List, [], _∷_}
-use mathlib.Core.Option.{Option, none}
+use mathlib.Core.Option.{none}
 use lib.Dec.{leb}
 use lib.IntN.{ℤ}
-use lib.ListN.{length, getD, List·getD-eq-default}
+use lib.ListN.{length, getD, drop, List·getD-eq-default}
+use lib.Seq.{drop-cons}
 use Rattle.itron.specs.Codes.{eRsatr, ePar, eObj, eMacv}
 use Rattle.itron.specs.Limits.{addressEnd}
 use Rattle.model.specs.Lists.{at}
 use Rattle.model.specs.State.{Region, noRegion}
 use Rattle.model.specs.Answers.{refuseIf, resultOf}
-use Rattle.model.specs.Regions.{end, isArea, lastEnd, wishesOk, areaOk, judgeIn}
+use Rattle.model.specs.Regions.{end, isArea, lastEnd, inChain, wishesOk, allows, areaOk, judgeIn}
 
 -- ---- ladders of checks, by the values of their tests
 abbrev pub enters : Bool → Bool → Bool → ℤ
@@ -22,8 +23,17 @@ enters attribute numbers place = resultOf (refuseIf (not attribute) eRsatr (refu
 abbrev pub judges : Bool → Bool → ℤ
 judges inside allowed = resultOf (refuseIf (not inside) eObj (refuseIf (not allowed) eMacv none))
 
-abbrev pub rules : ℤ → ℕ → ℕ → ℕ → Bool → Option Region → ℤ
-rules d base size w area region = resultOf (refuseIf (not area) ePar (judgeIn region d base size w))
+abbrev pub rules : ℤ → ℕ → ℕ → ℕ → Bool → List Region → ℤ
+rules d base size w area regions = resultOf (refuseIf (not area) ePar (judgeIn regions d base size w))
+
+-- ---- the region at an index, and the chain from there on, decide what they find
+pub judged-at : (rs : List Region) (i : ℕ) → i < length rs → (d : ℤ) (base size w : ℕ)
+    → judges (inChain (drop i rs) (base + size)) (allows (getD rs i noRegion) d w) ≡ resultOf (judgeIn (drop i rs) d base size w)
+judged-at rs i l d base size w =
+    subst
+    (λ (m : List Region). judges (inChain m (base + size)) (allows (getD rs i noRegion) d w) ≡ resultOf (judgeIn m d base size w))
+    (sym (drop-cons rs i noRegion l))
+    refl
 
 -- ---- the wishes may be tested before the area
 swap : (x y z : Bool) → y && (x && z) ≡ x && y && z

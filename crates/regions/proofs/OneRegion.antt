@@ -1,17 +1,22 @@
--- In a list that fits, at most one region holds an address, and `holder` finds exactly that one. Assumes nothing.
+-- In a list that fits, at most one region holds an address, and `fromHolder` begins with exactly that one. Assumes nothing.
 use Prim.Native.Nat.{ℕ, zero, suc, _≤_, _<_}
 use native.Mathlib.Omega.{arith}
 use mathlib.Core.Path.{_≡_, refl, ap, _∙_}
 use mathlib.Core.Bool.{Bool, true, false}
 use mathlib.Core.List.{List, [], _∷_}
-use mathlib.Core.Option.{none, some}
 use lib.Dec.{leb, ltb}
-use lib.ListN.{length, getD}
+use lib.ListN.{length, getD, drop}
 use borrow.Author.Tests.{leb-true, ltb-true, ltb-false}
 use Rattle.model.specs.State.{Region, noRegion}
-use Rattle.model.specs.Regions.{end, holds, orElse, holder}
+use Rattle.access.specs.Patterns.{pick}
+use Rattle.model.specs.Regions.{end, holds, fromHolder}
 use Rattle.model.specs.Conditions.{Ascending, RegionsFit}
 use Rattle.model.proofs.Lists.{and-left, and-right}
+use Rattle.regions.specs.declared.state.Regions.{Regions}
+use Rattle.regions.specs.View.{regionsOf}
+use Rattle.regions.specs.Held.{Held}
+use Rattle.regions.specs.Search.{InOrder}
+use Rattle.regions.proofs.Cells.{count-of, base-at, size-at}
 
 -- a region that holds an address starts at or below it and ends above it
 pub holds-start : (a : ℕ) (r : Region) → holds a r ≡ true → r .base ≤ a
@@ -48,12 +53,12 @@ passed a r rs g i l h = go (holds a r) refl
         let w = holds-start a (getD rs i noRegion) h in
         absurd (omega arith)
 
-holder-at : (a : ℕ) (rs : List Region) → Ascending rs → (i : ℕ) → i < length rs → holds a (getD rs i noRegion) ≡ true → holder rs a ≡ some (getD rs i noRegion)
-unfolding holder
+holder-at : (a : ℕ) (rs : List Region) → Ascending rs → (i : ℕ) → i < length rs → holds a (getD rs i noRegion) ≡ true → fromHolder rs a ≡ drop i rs
+unfolding fromHolder
 holder-at a [] g i l h = absurd (omega arith)
-holder-at a (r ∷ rs) g zero l h = ap (λ (b : Bool). orElse b r (holder rs a)) h
+holder-at a (r ∷ rs) g zero l h = ap (λ (b : Bool). pick b (r ∷ rs) (fromHolder rs a)) h
 holder-at a (r ∷ rs) g (suc i) l h =
-    ap (λ (b : Bool). orElse b r (holder rs a)) (passed a r rs g i (omega arith) h) ∙ holder-at a rs (tail r rs g) i (omega arith) h
+    ap (λ (b : Bool). pick b (r ∷ rs) (fromHolder rs a)) (passed a r rs g i (omega arith) h) ∙ holder-at a rs (tail r rs g) i (omega arith) h
 
 module _ (a : ℕ) (rs : List Region) (f : RegionsFit rs) where
   -- a region before another cannot hold an address that the other holds
@@ -73,12 +78,26 @@ module _ (a : ℕ) (rs : List Region) (f : RegionsFit rs) where
       go false e true e′ = absurd (apart j i (ltb-true j i e′) l h′ h)
       go false e false e′ = let m = ltb-false i j e in let n = ltb-false j i e′ in omega arith
 
-  -- and `holder` finds it
-  pub the-holder : (i : ℕ) → i < length rs → holds a (getD rs i noRegion) ≡ true → holder rs a ≡ some (getD rs i noRegion)
+  -- and `fromHolder` begins with it
+  pub the-holder : (i : ℕ) → i < length rs → holds a (getD rs i noRegion) ≡ true → fromHolder rs a ≡ drop i rs
   the-holder i l h = holder-at a rs (f .ascending) i l h
 
--- where no region holds an address `holder` finds none
-pub no-holder : (a : ℕ) (rs : List Region) → ((i : ℕ) → i < length rs → holds a (getD rs i noRegion) ≡ false) → holder rs a ≡ none
-unfolding holder
+-- where no region holds an address it is empty
+pub no-holder : (a : ℕ) (rs : List Region) → ((i : ℕ) → i < length rs → holds a (getD rs i noRegion) ≡ false) → fromHolder rs a ≡ []
+unfolding fromHolder
 no-holder a [] h = refl
-no-holder a (r ∷ rs) h = ap (λ (b : Bool). orElse b r (holder rs a)) (h zero (omega arith)) ∙ no-holder a rs (λ i l. h (suc i) (omega arith))
+no-holder a (r ∷ rs) h = ap (λ (b : Bool). pick b (r ∷ rs) (fromHolder rs a)) (h zero (omega arith)) ∙ no-holder a rs (λ i l. h (suc i) (omega arith))
+
+-- the arrays hold the regions in this order
+pub in-order : {r : Regions} → Held r → InOrder (r .bases) (r .sizes) (r .count)
+in-order {r} h =
+    record {
+      few = h .few;
+      apart = λ i j l k.
+          let b = base-at h i in
+          let z = size-at h i in
+          let n = base-at h j in
+          let c = count-of h in
+          let e = below (regionsOf r) (h .fit .ascending) i j l (omega arith) in
+          omega arith;
+    }

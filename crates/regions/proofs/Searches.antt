@@ -1,4 +1,4 @@
--- Laws of `lookup`: what a walk from the first region keeps, and that it finds the model's `holder`. Assumes nothing.
+-- Laws of `lookup`: what a walk from the first region keeps, and that it finds the region from which the model's `fromHolder` goes on. Assumes nothing.
 use Prim.Native.Nat.{ℕ, zero, suc, _+_, _-_, _≤_, _<_}
 use native.Mathlib.Omega.{arith}
 use native.Mathlib.Numerals.{add-one}
@@ -11,13 +11,13 @@ use types.Run.{OneOf}
 use denote.Enum.Declared.{tagOf}
 use Rattle.access.specs.Patterns.{pick}
 use Rattle.model.specs.State.{Region, noRegion}
-use Rattle.model.specs.Regions.{holds, orElse, holder}
+use Rattle.model.specs.Regions.{holds, fromHolder}
 use Rattle.regions.specs.declared.search.Found.{Found}
 use Rattle.regions.specs.declared.search.Found.the-variants.{At, Nothing}
 use Rattle.regions.specs.declared.state.Regions.{Regions}
 use Rattle.regions.specs.View.{regionsOf}
 use Rattle.regions.specs.Held.{Held}
-use Rattle.regions.specs.Search.{coveredBy, lookup, foundIn}
+use Rattle.regions.specs.Search.{coveredBy, lookup, foundFrom}
 use Rattle.regions.proofs.search.Found.{the-type as found-type}
 use Rattle.regions.proofs.Cells.{count-of, base-at, size-at}
 
@@ -58,22 +58,22 @@ module _ (bs ss : List ℕ) (a : ℕ) where
 
   -- ---- and it is the model's
   module _ (rs : List Region) (b : (i : ℕ) → getD bs i 0 ≡ getD rs i noRegion .base) (z : (i : ℕ) → getD ss i 0 ≡ getD rs i noRegion .size) where
-    found-from : (n i : ℕ) → i + n ≡ length rs → holder (drop i rs) a ≡ foundIn rs (lookup bs ss a i n)
-    unfolding holder lookup
-    found-from zero i e = ap (λ (l : List Region). holder l a) (drop-of-length-le rs {i = i} (omega arith))
+    found-from : (n i : ℕ) → i + n ≡ length rs → fromHolder (drop i rs) a ≡ foundFrom rs (lookup bs ss a i n)
+    unfolding fromHolder lookup
+    found-from zero i e = ap (λ (l : List Region). fromHolder l a) (drop-of-length-le rs {i = i} (omega arith))
     found-from (suc n) i e =
         let x = getD rs i noRegion in
-        ap (λ (l : List Region). holder l a) (drop-cons rs i noRegion (omega arith))
-        ∙ go (holds a x) (found-from n (suc i) (omega arith))
-        ∙ (let p = b i in let q = z i in λ j. foundIn rs (pick (coveredBy (sym p j) (sym q j) a) (At i) (lookup bs ss a (suc i) n)))
+        ap (λ (l : List Region). fromHolder l a) (drop-cons rs i noRegion (omega arith))
+        ∙ go (holds a x) (drop-cons rs i noRegion (omega arith)) (found-from n (suc i) (omega arith))
+        ∙ (let p = b i in let q = z i in λ j. foundFrom rs (pick (coveredBy (sym p j) (sym q j) a) (At i) (lookup bs ss a (suc i) n)))
       where
-        go : (t : Bool) → holder (drop (suc i) rs) a ≡ foundIn rs (lookup bs ss a (suc i) n)
-            → orElse t (getD rs i noRegion) (holder (drop (suc i) rs) a) ≡ foundIn rs (pick t (At i) (lookup bs ss a (suc i) n))
-        go true ih = refl
-        go false ih = ih
+        go : (t : Bool) → drop i rs ≡ getD rs i noRegion ∷ drop (suc i) rs → fromHolder (drop (suc i) rs) a ≡ foundFrom rs (lookup bs ss a (suc i) n)
+            → pick t (getD rs i noRegion ∷ drop (suc i) rs) (fromHolder (drop (suc i) rs) a) ≡ foundFrom rs (pick t (At i) (lookup bs ss a (suc i) n))
+        go true d ih = sym d
+        go false d ih = ih
 
 -- the search over the arrays finds the region that holds an address
-pub finds-holder : {r : Regions} → Held r → (a : ℕ) → holder (regionsOf r) a ≡ foundIn (regionsOf r) (lookup (r .bases) (r .sizes) a 0 (r .count))
+pub finds-holder : {r : Regions} → Held r → (a : ℕ) → fromHolder (regionsOf r) a ≡ foundFrom (regionsOf r) (lookup (r .bases) (r .sizes) a 0 (r .count))
 finds-holder {r} h a =
     found-from (r .bases) (r .sizes) a (regionsOf r) (base-at h) (size-at h) (r .count) 0 (let e = count-of h in omega arith)
 

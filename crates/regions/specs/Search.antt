@@ -1,14 +1,19 @@
 -- The search for the region that holds an address, over the lists of bases and sizes. Definitions only.
-use Prim.Native.Nat.{ℕ, zero, suc, _+_}
+use Prim.Native.Nat.{ℕ, zero, suc, _+_, _≤_, _<_}
 use mathlib.Core.Bool.{Bool, _&&_}
-use mathlib.Core.List.{List}
-use mathlib.Core.Option.{Option, none, some}
+use mathlib.Core.List.{List, []}
 use lib.Dec.{leb, ltb}
-use lib.ListN.{getD}
+use lib.ListN.{getD, drop}
+use Rattle.itron.specs.Limits.{maxRegions}
 use Rattle.access.specs.Patterns.{pick}
-use Rattle.model.specs.State.{Region, noRegion}
+use Rattle.model.specs.State.{Region}
 use Rattle.regions.specs.declared.search.Found.{Found}
 use Rattle.regions.specs.declared.search.Found.the-variants.{At, Nothing}
+
+-- the regions are in the order of their addresses: each ends at or below the start of every later one
+pub record InOrder (bases sizes : List ℕ) (count : ℕ) : Type 0 where
+  pub few : count ≤ maxRegions
+  pub apart : (i j : ℕ) → i < j → j < count → getD bases i 0 + getD sizes i 0 ≤ getD bases j 0
 
 -- whether an area holds an address
 abbrev pub coveredBy : ℕ → ℕ → ℕ → Bool
@@ -19,7 +24,7 @@ unfoldable pub lookup : List ℕ → List ℕ → ℕ → ℕ → ℕ → Found
 lookup bases sizes a i zero = Nothing
 lookup bases sizes a i (suc n) = pick (coveredBy (getD bases i 0) (getD sizes i 0) a) (At i) (lookup bases sizes a (suc i) n)
 
--- the region that was found
-abbrev pub foundIn : List Region → Found → Option Region
-foundIn rs (At i) = some (getD rs i noRegion)
-foundIn rs Nothing = none
+-- the regions from the one that was found on
+abbrev pub foundFrom : List Region → Found → List Region
+foundFrom rs (At i) = drop i rs
+foundFrom rs Nothing = []

@@ -1,6 +1,7 @@
 // The memory verdict on a closed table for a known domain (document 01, "The memory verdict").
 ghost use mathlib.Core.Path.{_≡_};
-ghost use mathlib.Core.Option.{some};
+ghost use Prim.Native.Nat.{_<_};
+ghost use lib.ListN.{drop};
 ghost use Rattle.model.specs.Answers.{resultOf};
 ghost use Rattle.model.specs.Regions.{end, mayWrite, mayRead, mayExecute, grants, allows, wishesOk, areaOk, judgeIn, judge};
 ghost use Rattle.regions.specs.View.{regionsOf, shownAs};
@@ -82,13 +83,24 @@ impl RegionInfo {
         let execute = granted(has(wishes, EXECUTE), self.may_execute(domain));
         write & read & execute
     }
+}
 
-    // The verdict on an area that starts in this region.
-    pub(crate) fn judge(self, domain: i32, base: u32, size: u32, wishes: u32) -> i32
-        ensures { λ r. ⌜ r ≡ resultOf (judgeIn (some (shownAs self)) domain base size wishes) ⌝ }
+impl Regions {
+    // The code of the verdict on an area that starts in the region at an index.
+    pub(crate) fn judge_at(
+        self,
+        index: usize,
+        domain: i32,
+        base: u32,
+        size: u32,
+        wishes: u32,
+    ) -> i32
+        requires { ⌜ Held self × (index < self .count) ⌝ }
+        ensures { λ r. ⌜ r ≡ resultOf (judgeIn (drop index (regionsOf self)) domain base size wishes) ⌝ }
     {
-        let inside = base as u64 + size as u64 <= self.end();
-        let allowed = self.allows(domain, wishes);
+        let region = self.at(index);
+        let inside = self.reaches(index, region, base as u64 + size as u64);
+        let allowed = region.allows(domain, wishes);
         if !inside {
             return E_OBJ;
         }
@@ -97,9 +109,7 @@ impl RegionInfo {
         }
         E_OK
     }
-}
 
-impl Regions {
     // The code of the verdict, whatever is asked.
     pub fn judge(self, domain: i32, base: u32, size: u32, wishes: u32) -> i32
         requires { ⌜ Held self ⌝ }
@@ -110,7 +120,7 @@ impl Regions {
         }
         let count = self.count;
         match find(&self.bases, &self.sizes, count, base) {
-            Found::At(index) => self.at(index).judge(domain, base, size, wishes),
+            Found::At(index) => self.judge_at(index, domain, base, size, wishes),
             Found::Nothing => E_NOEXS,
         }
     }

@@ -1,21 +1,20 @@
--- `Regions::judge` meets its contract: refused, no region, or the verdict of the region that was found. Assumes nothing.
+-- `Regions::judge` meets its contract: refused, no region, or the verdict from the region that was found on. Assumes nothing.
 use borrow.Author.Needs.{needs}
 use native.Mathlib.Omega.{arith}
 use mathlib.Core.Path.{_≡_, sym, ap, _∙_}
 use mathlib.Core.Bool.{true}
-use mathlib.Core.Option.{none, some}
-use lib.ListN.{getD}
+use mathlib.Core.List.{[]}
+use lib.ListN.{drop}
 use borrow.Author.Tests.{not-true, not-false}
 use mir.Syntax.{w32}
 use mir.Val.{toZ, ofZ}
 use mir.Facts.{toZ-ofZ}
-use Rattle.model.specs.State.{noRegion}
-use Rattle.model.specs.Regions.{areaOk, holder, judge}
-use Rattle.regions.specs.declared.state.RegionInfo.{RegionInfo}
-use Rattle.regions.specs.View.{regionsOf, shownAs}
+use Rattle.model.specs.Regions.{areaOk, fromHolder, judge}
+use Rattle.regions.specs.View.{regionsOf}
 use Rattle.regions.specs.declared.search.Found.the-variants.{At}
-use Rattle.regions.specs.Search.{lookup, foundIn}
+use Rattle.regions.specs.Search.{lookup, foundFrom}
 use Rattle.regions.proofs.Searches.{lookup-low, finds-holder, is-nothing}
+use Rattle.regions.proofs.OneRegion.{in-order}
 use Rattle.regions.proofs.Checks.{rules}
 use Rattle.regions.proofs.state.Regions.judge.Statement.{statement}
 use Rattle.regions.proofs.state.Regions.judge.Tie as tie
@@ -28,10 +27,10 @@ unfolding judge
 returns c =
     let a = c .before .before .args in
     let e = sym (not-true (c .before .is-request .result) (c .if1 .taken)) ∙ c .before .is-request .ensures in
-    λ i. rules (a .domain) (a .base) (a .size) (a .wishes) (e i) (holder (regionsOf (a .t1)) (a .base))
+    λ i. rules (a .domain) (a .base) (a .size) (a .wishes) (e i) (fromHolder (regionsOf (a .t1)) (a .base))
 
 find-requires : tie.Need-find-requires
-find-requires c κs = search needs
+find-requires c κs = let o = in-order (c .before .before .before .before .before .before .before .pre) in (search needs, search needs, o)
 
 enum-known-index : tie.Need-enum-known-index
 enum-known-index c = search needs
@@ -45,16 +44,13 @@ found : (c : tie.After-index) → let a = c .before .before .before .before .bef
     lookup (a .t1 .bases) (a .t1 .sizes) (a .base) 0 (a .t1 .count) ≡ At (c .index .given .0 .0)
 found c = sym (c .before .before .find .ensures) ∙ c .index .given .1
 
-at-requires : tie.Need-at-requires
-at-requires c κs =
+judge-at-requires : tie.Need-judge-at-requires
+judge-at-requires c κs =
     let x = c .before in
     let s = x .before .before .before .before .before .before .before .before .before .before in
     let r = s .args .t1 in
     let l = lookup-low (r .bases) (r .sizes) (s .args .base) (r .count) 0 (x .index .given .0 .0) (found x) in
     (s .pre, omega arith)
-
-judge-requires : tie.Need-judge-requires
-judge-requires c κs = search needs
 
 enum-told : tie.Need-enum-told
 enum-told c = search needs
@@ -62,17 +58,15 @@ enum-told c = search needs
 returns-2 : tie.Need-returns-2
 unfolding judge
 returns-2 c =
-    let x = c .before .before .before in
+    let x = c .before .before in
     let q = x .before .before .before .before .before .before .before .before in
     let s = q .before .before in
     let a = s .args in
     let rs = regionsOf (a .t1) in
-    let e : toZ w32 (ofZ w32 (c .judge .result)) ≡ c .judge .result = search needs in
+    let e : toZ w32 (ofZ w32 (c .judge-at .result)) ≡ c .judge-at .result = search needs in
     let t = asked q in
-    let o : holder rs (a .base) ≡ some (getD rs (x .index .given .0 .0) noRegion) = finds-holder (s .pre) (a .base) ∙ ap (foundIn rs) (found x) in
-    e ∙ rw (toZ-ofZ (s .fits .domain)) at (c .judge .ensures)
-    ∙ ap (λ (y : RegionInfo). rules (a .domain) (a .base) (a .size) (a .wishes) true (some (shownAs y))) (c .before .at .ensures)
-    ∙ (λ i. rules (a .domain) (a .base) (a .size) (a .wishes) (t i) (sym o i))
+    let o : fromHolder rs (a .base) ≡ drop (x .index .given .0 .0) rs = finds-holder (s .pre) (a .base) ∙ ap (foundFrom rs) (found x) in
+    e ∙ rw (toZ-ofZ (s .fits .domain)) at (c .judge-at .ensures) ∙ (λ i. rules (a .domain) (a .base) (a .size) (a .wishes) (t i) (sym o i))
 
 returns-3 : tie.Need-returns-3
 unfolding judge
@@ -83,7 +77,7 @@ returns-3 c =
     let a = s .args in
     let rs = regionsOf (a .t1) in
     let t = asked q in
-    let o : holder rs (a .base) ≡ none = finds-holder (s .pre) (a .base) ∙ ap (foundIn rs) (sym (f .find .ensures) ∙ is-nothing (f .find .result) (c .before .match .keys2)) in
+    let o : fromHolder rs (a .base) ≡ [] = finds-holder (s .pre) (a .base) ∙ ap (foundFrom rs) (sym (f .find .ensures) ∙ is-nothing (f .find .result) (c .before .match .keys2)) in
     λ i. rules (a .domain) (a .base) (a .size) (a .wishes) (t i) (sym o i)
 
 pub judge-spec : {M : Type 1} → statement M
@@ -94,8 +88,7 @@ judge-spec =
     returns
     find-requires
     enum-known-index
-    at-requires
-    judge-requires
+    judge-at-requires
     enum-told
     returns-2
     returns-3)
