@@ -23,10 +23,32 @@ struct Workload {
     plain: Work,
 }
 
-const WORKLOADS: [Workload; 4] = [
+/// Areas well within a region, into the next region, and past every region.
+const INSIDE: u32 = 16;
+const INTO_NEXT: u32 = plain_runs::REGION_SIZE + INSIDE;
+const PAST_ALL: u32 = u32::MAX / 2;
+
+const WORKLOADS: [Workload; 6] = [
     Workload { name: "signal_poll", calls_a_round: 2, ours: ours::signal_poll, plain: plain_runs::signal_poll },
     Workload { name: "send_receive", calls_a_round: 2, ours: ours::send_receive, plain: plain_runs::send_receive },
-    Workload { name: "verdict", calls_a_round: 1, ours: ours::verdict, plain: plain_runs::verdict },
+    Workload {
+        name: "verdict",
+        calls_a_round: 1,
+        ours: |count| ours::verdict(count, INSIDE),
+        plain: |count| plain_runs::verdict(count, INSIDE),
+    },
+    Workload {
+        name: "into_next",
+        calls_a_round: 1,
+        ours: |count| ours::verdict(count, INTO_NEXT),
+        plain: |count| plain_runs::verdict(count, INTO_NEXT),
+    },
+    Workload {
+        name: "past_all",
+        calls_a_round: 1,
+        ours: |count| ours::verdict(count, PAST_ALL),
+        plain: |count| plain_runs::verdict(count, PAST_ALL),
+    },
     Workload { name: "listed", calls_a_round: 2, ours: ours::listed, plain: plain_runs::listed },
 ];
 

@@ -4,7 +4,7 @@ mod archive {
     extern "C" {
         pub fn timing_signal_poll(pairs: u32) -> u32;
         pub fn timing_send_receive(pairs: u32) -> u32;
-        pub fn timing_verdict(count: u32) -> u32;
+        pub fn timing_verdict(count: u32, size: u32) -> u32;
         pub fn host_run(calls: *const u32, calls_len: usize, answers: *mut u32, answers_len: usize) -> usize;
     }
 }
@@ -19,8 +19,8 @@ pub fn send_receive(pairs: u32) -> u32 {
     unsafe { archive::timing_send_receive(pairs) }
 }
 
-pub fn verdict(count: u32) -> u32 {
-    unsafe { archive::timing_verdict(count) }
+pub fn verdict(count: u32, size: u32) -> u32 {
+    unsafe { archive::timing_verdict(count, size) }
 }
 
 /// The two slices are borrowed, so they are alive and apart while the call runs.

@@ -242,13 +242,16 @@ impl Queue {
 
 #[derive(Clone, Copy)]
 struct Region {
+    domain: i32,
     base: u32,
     size: u32,
     atr: u32,
     vector: Vector,
+    /// The end of the chain from here on: regions that touch and are equal count as one.
+    chain_end: u64,
 }
 
-const NO_REGION: Region = Region { base: 0, size: 0, atr: 0, vector: Vector::KERNEL };
+const NO_REGION: Region = Region { domain: 0, base: 0, size: 0, atr: 0, vector: Vector::KERNEL, chain_end: 0 };
 
 impl Region {
     /// An end may be 2^32, which needs the wider type.
@@ -259,9 +262,14 @@ impl Region {
     fn holds(&self, base: u32) -> bool {
         self.base <= base && base - self.base < self.size
     }
+
+    fn joins(&self, next: &Region) -> bool {
+        let equal = |r: &Region| (r.domain, r.atr, r.vector);
+        self.end() == u64::from(next.base) && equal(self) == equal(next)
+    }
 }
 
-/// The whole kernel; the domain of an object is not kept, as only its default vector needs it.
+/// The whole kernel; the domain of a semaphore or queue is not kept, as only its default vector needs it.
 pub struct Kernel {
     domains: i32,
     unit: u32,
@@ -338,15 +346,29 @@ impl Kernel {
         Ok(())
     }
 
+    /// The regions that the last one is joined to, directly or by others, end where it ends.
+    fn lengthen_chain(&mut self) {
+        let regions = &mut self.regions.entries[..self.regions.count];
+        for next in (1..regions.len()).rev() {
+            if !regions[next - 1].joins(&regions[next]) {
+                return;
+            }
+            regions[next - 1].chain_end = regions[next].chain_end;
+        }
+    }
+
     pub fn add_region(&mut self, domain: i32, atr: u32, base: u32, size: u32, vector: Option<Vector>) -> Check {
         self.check_entry(&self.regions, domain)?;
         ensure(atr & !(TA_RO | TA_EXEC) == 0, E_RSATR)?;
-        let region = Region { base, size, atr, vector: vector.unwrap_or(Vector::default_of(domain)) };
+        let mut region =
+            Region { domain, base, size, atr, vector: vector.unwrap_or(Vector::default_of(domain)), chain_end: 0 };
         ensure(size > 0 && region.end() <= ADDRESSES, E_PAR)?;
         ensure(base % self.unit == 0 && size % self.unit == 0, E_PAR)?;
         let end_before = self.regions.entries[..self.regions.count].last().map_or(0, Region::end);
         ensure(u64::from(base) >= end_before, E_OBJ)?;
+        region.chain_end = region.end();
         self.regions.add(region);
+        self.lengthen_chain();
         Ok(())
     }
 
@@ -481,7 +503,7 @@ impl Kernel {
         Ok(Done::OK)
     }
 
-    /// The memory verdict: the first region that holds the base decides.
+    /// The memory verdict: the region that holds the base decides, with the chain from there on.
     pub fn prb_mem(&self, domain: i32, base: u32, size: u32, wish: u32) -> Check {
         ensure(self.closed, E_CTX)?;
         ensure(domain == TDOM_KERNEL || self.is_user(domain), E_ID)?;
@@ -489,7 +511,7 @@ impl Kernel {
         ensure(size > 0 && wish != 0 && wish & !TPM_ALL == 0 && end <= ADDRESSES, E_PAR)?;
         let regions = &self.regions.entries[..self.regions.count];
         let region = regions.iter().find(|region| region.holds(base)).ok_or(E_NOEXS)?;
-        ensure(end <= region.end(), E_OBJ)?;
+        ensure(end <= region.chain_end, E_OBJ)?;
         let write = region.atr & TA_RO == 0 && admits(region.vector.normal1, domain);
         let read = admits(region.vector.normal2, domain);
         let execute = read && region.atr & TA_EXEC != 0;

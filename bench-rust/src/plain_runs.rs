@@ -82,16 +82,20 @@ pub fn listed(pairs: u32) -> u32 {
     crate::listed::wait_release(run, pairs)
 }
 
-pub fn verdict(count: u32) -> u32 {
+/// As many regions as there may be, each touching the next and equal to it.
+const REGIONS: u32 = 64;
+pub const REGION_SIZE: u32 = 4096;
+
+pub fn verdict(count: u32, size: u32) -> u32 {
     let mut kernel = Kernel::EMPTY;
     build(&mut kernel, 2, |kernel| {
         let vector = Some(Vector::new(1, 1, 0, 1));
-        (0..64).try_for_each(|k| kernel.add_region(TDOM_KERNEL, 0, 4096 * k, 4096, vector))
+        (0..REGIONS).try_for_each(|k| kernel.add_region(TDOM_KERNEL, 0, REGION_SIZE * k, REGION_SIZE, vector))
     });
     let mut good = 0;
     for round in 0..count {
         let kernel = black_box(&mut kernel);
-        good += u32::from(kernel.prb_mem(1, 4096 * (round % 64), 16, TPM_READ).is_ok());
+        good += u32::from(kernel.prb_mem(1, REGION_SIZE * (round % REGIONS), size, TPM_READ).is_ok());
     }
     good
 }

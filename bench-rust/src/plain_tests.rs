@@ -85,3 +85,22 @@ fn units() {
         [Err(E_PAR), Err(E_PAR), Ok(()), Err(E_PAR), Err(E_OBJ), Ok(())]
     );
 }
+
+#[test]
+fn touching_regions() {
+    let mut k = Kernel::EMPTY;
+    assert_eq!(k.fresh(2, 4_096), Ok(()));
+    let vector = Some(Vector::new(1, 3, 0, 1));
+    for base in [0x1000, 0x2000, 0x4000, 0x5000, 0x6000] {
+        assert_eq!(k.add_region(1, 0, base, 0x1000, vector), Ok(()));
+    }
+    assert_eq!(k.add_region(-1, 0, 0x7000, 0x1000, vector), Ok(()));
+    assert_eq!(k.add_region(-2, 0, 0x8000, 0x1000, vector), Ok(()));
+    assert_eq!(k.add_region(-2, 0, 0x9000, 0x1000, Some(Vector::new(1, 3, 0, 2))), Ok(()));
+    assert_eq!(k.close(), Ok(()));
+    let reads = |base, size| k.prb_mem(2, base, size, TPM_READ);
+    assert_eq!([reads(0x1000, 0x2000), reads(0x1000, 0x2001)], [Ok(()), Err(E_OBJ)]);
+    assert_eq!([reads(0x3000, 1), reads(0x2FFF, 0x1002)], [Err(E_NOEXS), Err(E_OBJ)]);
+    assert_eq!([reads(0x4000, 0x3000), reads(0x5FFF, 2)], [Ok(()); 2]);
+    assert_eq!([0x6FFF, 0x7FFF, 0x8FFF].map(|base| reads(base, 2)), [Err(E_OBJ); 3]);
+}

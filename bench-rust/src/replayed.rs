@@ -64,6 +64,10 @@ fn patterns(vector: Vector, between: &str) -> String {
     [vector.normal1, vector.normal2, vector.management, vector.reference].map(|p| p.to_string()).join(between)
 }
 
+fn given(vector: Option<Vector>) -> String {
+    vector.map_or(String::new(), |vector| format!(" {}", patterns(vector, " ")))
+}
+
 fn refer(answer: Result<Referred, Er>, first: &str, second: Option<&str>) -> String {
     let code = name(*answer.as_ref().err().unwrap_or(&E_OK));
     let (waiter, receiver, count, vector) = match answer {
@@ -79,35 +83,54 @@ fn random_vector(random: &mut Random) -> Vector {
     Vector::new(pattern(), pattern(), pattern(), pattern())
 }
 
-/// An entry of any kind; regions for the most part behind the last one, whose end `top` is.
-fn entry(random: &mut Random, kernel: &mut Kernel, script: &mut Script, top: &mut u32) {
+/// The region taken last: its end, and what the next must be equal in to be joined to it.
+#[derive(Default)]
+struct Last {
+    end: u32,
+    domain: i32,
+    atr: u32,
+    vector: Option<Vector>,
+}
+
+impl Last {
+    /// A region for the most part behind this one, and half of the time equal to it.
+    fn next(&self, random: &mut Random, domain: i32, atr: u32, vector: Option<Vector>) -> (Last, u32, u32) {
+        let odd = random.pick(&[0, 0x800, 0x1000, self.end / 2, self.end.saturating_add(1), 0xFFFF_F000, u32::MAX]);
+        let base = random.mostly(self.end, 9, &[odd]);
+        let size = random.mostly(0x1_0000, 3, &[0, 1, 0x800, 0x1000, 0x1001, 0x2_0000, u32::MAX]);
+        let end = base.saturating_add(size);
+        let next = Last { end, domain, atr, vector };
+        (if random.one_in(2) { Last { end, ..*self } } else { next }, base, size)
+    }
+}
+
+/// An entry of any kind.
+fn entry(random: &mut Random, kernel: &mut Kernel, script: &mut Script, last: &mut Last) {
     let good = random.pick(&[TDOM_KERNEL, -2, 1, 2]);
     let domain = random.mostly(good, 9, &ENDS);
     let atr = random.mostly(0, 10, &[1, 2, 4, 5, 8, u32::MAX]);
     let vector = (!random.one_in(3)).then(|| random_vector(random));
-    let given = vector.map_or(String::new(), |vector| format!(" {}", patterns(vector, " ")));
     match random.below(4) {
         0 => script.add(format!("task {domain}"), code(kernel.add_task(domain))),
         1 => {
             let (start, max) = (random.pick(&[0, 0, 1, 2, 65_535]), random.pick(&[0, 1, 2, 2, 65_535, 65_536]));
             let answer = code(kernel.add_semaphore(domain, atr, start, max, vector));
-            script.add(format!("sem {domain} {atr} {start} {max}{given}"), answer);
+            script.add(format!("sem {domain} {atr} {start} {max}{}", given(vector)), answer);
         }
         2 => {
             let most = MAX_QUEUE_CAPACITY;
             let capacity = random.pick(&[0, 0, 1, 2, most, most, most, most, most + 1]);
             let answer = code(kernel.add_queue(domain, atr, capacity, vector));
-            script.add(format!("dtq {domain} {atr} {capacity}{given}"), answer);
+            script.add(format!("dtq {domain} {atr} {capacity}{}", given(vector)), answer);
         }
         _ => {
-            let odd = random.pick(&[0, 0x800, 0x1000, *top / 2, top.saturating_add(1), 0xFFFF_F000, u32::MAX]);
-            let base = random.mostly(*top, 9, &[odd]);
-            let size = random.mostly(0x1_0000, 3, &[0, 1, 0x800, 0x1000, 0x1001, 0x2_0000, u32::MAX]);
+            let (next, base, size) = last.next(random, domain, atr, vector);
+            let Last { domain, atr, vector, .. } = next;
             let answer = kernel.add_region(domain, atr, base, size, vector);
             if answer.is_ok() {
-                *top = base.saturating_add(size);
+                *last = next;
             }
-            script.add(format!("mem {domain} {atr} {base} {size}{given}"), code(answer));
+            script.add(format!("mem {domain} {atr} {base} {size}{}", given(vector)), code(answer));
         }
     }
 }
@@ -142,12 +165,12 @@ fn queue_call(random: &mut Random, kernel: &mut Kernel, script: &mut Script, tas
     }
 }
 
-fn verdict(random: &mut Random, kernel: &mut Kernel, script: &mut Script, top: u32) {
+fn verdict(random: &mut Random, kernel: &mut Kernel, script: &mut Script, last: &Last) {
     let good = random.pick(&[TDOM_KERNEL, 1, 2]);
     let domain = random.mostly(good, 10, &ENDS);
-    let inside = random.below(top.max(1) as usize) as u32;
+    let inside = random.below(last.end.max(1) as usize) as u32;
     let base = random.mostly(inside, 6, &[0, 0xFFFF_F000, u32::MAX]);
-    let size = random.pick(&[0, 1, 1, 2, 16, 0x1000, u32::MAX]);
+    let size = random.pick(&[0, 1, 1, 2, 16, 0x1000, 0x1_0000, 0x1_0001, 0x3_0000, u32::MAX]);
     let wish = random.pick(&[0, 1, 2, 2, 3, 4, 6, 7, 8, u32::MAX]);
     script.add(format!("prb_mem {domain} {base} {size} {wish}"), code(kernel.prb_mem(domain, base, size, wish)));
 }
@@ -159,7 +182,7 @@ const NO_UNITS: [Option<u32>; 6] =
 
 /// A table, mostly closed, then calls and verdicts.
 fn random_script(random: &mut Random) -> Script {
-    let (mut script, mut kernel, mut top) = (Script::default(), Kernel::EMPTY, 0);
+    let (mut script, mut kernel, mut last) = (Script::default(), Kernel::EMPTY, Last::default());
     let n = random.mostly(2, 6, &ENDS);
     let good = random.pick(&UNITS);
     let unit = random.mostly(good, 9, &NO_UNITS);
@@ -170,7 +193,7 @@ fn random_script(random: &mut Random) -> Script {
     }
     // The largest number can fill every kind up.
     for _ in 0..random.pick(&[8, 20, 90, 1_500]) {
-        entry(random, &mut kernel, &mut script, &mut top);
+        entry(random, &mut kernel, &mut script, &mut last);
     }
     for _ in 0..random.pick(&[0, 1, 1, 1, 1, 1, 2]) {
         script.add("close".to_string(), code(kernel.close()));
@@ -181,8 +204,8 @@ fn random_script(random: &mut Random) -> Script {
         let good = random.pick(&[1, 1, 1, 2, 2, 3, 4]);
         let id = random.mostly(good, 25, &ENDS);
         match random.below(12) {
-            0 => verdict(random, &mut kernel, &mut script, top),
-            1 => entry(random, &mut kernel, &mut script, &mut top),
+            0 => verdict(random, &mut kernel, &mut script, &last),
+            1 => entry(random, &mut kernel, &mut script, &mut last),
             2..=6 => semaphore_call(random, &mut kernel, &mut script, task, id),
             _ => queue_call(random, &mut kernel, &mut script, task, id),
         }

@@ -1,5 +1,6 @@
 // The bench runs and the easy slips of document 01, through the kernel's public operations, one line for each step.
 pub mod calls;
+pub mod chains;
 pub mod entries;
 pub mod names;
 pub mod runs;
@@ -21,6 +22,7 @@ fn main() {
     runs::numbers(table);
     runs::regions(table);
     units::all();
+    chains::all();
     slips::all(table);
     text(b"\n");
 }

@@ -9,7 +9,8 @@ use Rattle.arrays.specs.Pad.{pad}
 use Rattle.arrays.proofs.Pads.{pad-get, pad-snoc}
 use Rattle.model.specs.State.{Region, noRegion}
 use Rattle.regions.specs.declared.state.Regions.{Regions}
-use Rattle.regions.specs.View.{regionsOf}
+use Rattle.regions.specs.declared.state.RegionInfo.{RegionInfo}
+use Rattle.regions.specs.View.{regionWith, regionsOf, infoOf}
 use Rattle.regions.specs.Form.{baseOf, sizeOf, protectionOf, noProtection, regionsAs}
 use Rattle.regions.specs.Held.{Held}
 
@@ -33,6 +34,14 @@ module _ {r : Regions} (h : Held r) where
   pub protection-at : (i : ℕ) → getD (r .protections) i noProtection ≡ protectionOf (getD (regionsOf r) i noRegion)
   unfolding regionsAs
   protection-at i = ap (λ (x : Regions). getD (x .protections) i noProtection) (h .form) ∙ column-get maxRegions protectionOf (regionsOf r) i
+
+  -- the three cells of an index are its region
+  pub region-at : (i : ℕ) → infoOf (regionWith (getD (r .bases) i 0) (getD (r .sizes) i 0) (getD (r .protections) i noProtection)) ≡ infoOf (getD (regionsOf r) i noRegion)
+  region-at i =
+      let b = base-at i in
+      let z = size-at i in
+      let p = protection-at i in
+      λ j. infoOf (regionWith (b j) (z j) (p j))
 
 -- ---- one region more
 map-snoc : {A : Type 0} (f : Region → A) (rs : List Region) (x : Region) → map f (rs ++ (x ∷ [])) ≡ map f rs ++ (f x ∷ [])

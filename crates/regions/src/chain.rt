@@ -29,8 +29,20 @@ impl RegionInfo {
 }
 
 impl Regions {
-    // Whether an area that starts in a region, given with its index, and ends at an address lies within the chain from there on.
+    // Whether an area that starts in a region, given with its index, and ends at an address lies within the chain from there on. Most
+    // areas end in the region that they start in, and need no walk.
     pub(crate) fn reaches(self, index: usize, first: RegionInfo, end: u64) -> bool
+        requires { ⌜ Held self × (index < self .count) × (first ≡ infoOf (getD (regionsOf self) index noRegion)) ⌝ }
+        ensures { λ r. ⌜ r ≡ inChain (drop index (regionsOf self)) end ⌝ }
+    {
+        if end <= first.end() {
+            return true;
+        }
+        self.walk(index, first, end)
+    }
+
+    // The same, from region to region. The cells are read here and not by `at`, which would take a copy of all regions at each step.
+    pub(crate) fn walk(self, index: usize, first: RegionInfo, end: u64) -> bool
         requires { ⌜ Held self × (index < self .count) × (first ≡ infoOf (getD (regionsOf self) index noRegion)) ⌝ }
         ensures { λ r. ⌜ r ≡ inChain (drop index (regionsOf self)) end ⌝ }
     {
@@ -42,7 +54,8 @@ impl Regions {
             if next == count {
                 return false;
             }
-            let follower = self.at(next);
+            let protection = self.protections[next];
+            let follower = RegionInfo::of(self.bases[next], self.sizes[next], protection);
             if !(region.touches(follower) & region.equals(follower)) {
                 return false;
             }

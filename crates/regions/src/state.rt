@@ -5,7 +5,7 @@ ghost use mathlib.Core.List.{[]};
 ghost use lib.ListN.{length, getD};
 ghost use Rattle.model.specs.Lists.{at};
 ghost use Rattle.model.specs.State.{noRegion};
-ghost use Rattle.regions.specs.View.{regionsOf, infoOf};
+ghost use Rattle.regions.specs.View.{regionWith, regionsOf, infoOf};
 ghost use Rattle.regions.specs.Form.{regionsAs};
 ghost use Rattle.regions.specs.Held.{Held};
 use access::vector::Vector;
@@ -53,6 +53,20 @@ impl RegionInfo {
         size: 0,
         vector: Vector::KERNEL,
     };
+
+    // A region by its place and its protection.
+    pub(crate) fn of(base: u32, size: u32, protection: Protection) -> RegionInfo
+        ensures { λ r. ⌜ r ≡ infoOf (regionWith base size protection) ⌝ }
+    {
+        let vector = protection.vector;
+        RegionInfo {
+            domain: protection.domain,
+            attribute: protection.attribute,
+            base,
+            size,
+            vector,
+        }
+    }
 }
 
 impl Regions {
@@ -87,14 +101,7 @@ impl Regions {
         ensures { λ r. ⌜ r ≡ infoOf (getD (regionsOf self) index noRegion) ⌝ }
     {
         let protection = self.protections[index];
-        let vector = protection.vector;
-        RegionInfo {
-            domain: protection.domain,
-            attribute: protection.attribute,
-            base: self.bases[index],
-            size: self.sizes[index],
-            vector,
-        }
+        RegionInfo::of(self.bases[index], self.sizes[index], protection)
     }
 
     // The region of a number, whatever the number.

@@ -1,10 +1,11 @@
 // The memory verdict on a closed table for a known domain (document 01, "The memory verdict").
 ghost use mathlib.Core.Path.{_≡_};
 ghost use Prim.Native.Nat.{_<_};
-ghost use lib.ListN.{drop};
+ghost use lib.ListN.{drop, getD};
+ghost use Rattle.model.specs.State.{noRegion};
 ghost use Rattle.model.specs.Answers.{resultOf};
 ghost use Rattle.model.specs.Regions.{end, mayWrite, mayRead, mayExecute, grants, allows, wishesOk, areaOk, judgeIn, judge};
-ghost use Rattle.regions.specs.View.{regionsOf, shownAs};
+ghost use Rattle.regions.specs.View.{regionsOf, infoOf, shownAs};
 ghost use Rattle.regions.specs.Held.{Held};
 use crate::entry::is_area;
 use crate::flag::EXECUTABLE;
@@ -86,19 +87,19 @@ impl RegionInfo {
 }
 
 impl Regions {
-    // The code of the verdict on an area that starts in the region at an index.
+    // The code of the verdict on an area that starts in a region, given with its index.
     pub(crate) fn judge_at(
         self,
         index: usize,
+        region: RegionInfo,
         domain: i32,
         base: u32,
         size: u32,
         wishes: u32,
     ) -> i32
-        requires { ⌜ Held self × (index < self .count) ⌝ }
+        requires { ⌜ Held self × (index < self .count) × (region ≡ infoOf (getD (regionsOf self) index noRegion)) ⌝ }
         ensures { λ r. ⌜ r ≡ resultOf (judgeIn (drop index (regionsOf self)) domain base size wishes) ⌝ }
     {
-        let region = self.at(index);
         let inside = self.reaches(index, region, base as u64 + size as u64);
         let allowed = region.allows(domain, wishes);
         if !inside {
@@ -110,7 +111,7 @@ impl Regions {
         E_OK
     }
 
-    // The code of the verdict, whatever is asked.
+    // The code of the verdict, whatever is asked. The region's cells are read here and not by `at`, which would take a copy of all regions.
     pub fn judge(self, domain: i32, base: u32, size: u32, wishes: u32) -> i32
         requires { ⌜ Held self ⌝ }
         ensures { λ r. ⌜ r ≡ resultOf (judge (regionsOf self) domain base size wishes) ⌝ }
@@ -120,7 +121,11 @@ impl Regions {
         }
         let count = self.count;
         match find(&self.bases, &self.sizes, count, base) {
-            Found::At(index) => self.judge_at(index, domain, base, size, wishes),
+            Found::At(index) => {
+                let protection = self.protections[index];
+                let region = RegionInfo::of(self.bases[index], self.sizes[index], protection);
+                self.judge_at(index, region, domain, base, size, wishes)
+            },
             Found::Nothing => E_NOEXS,
         }
     }

@@ -11,9 +11,6 @@ use std::num::wrapping_add_u32;
 
 const REGIONS: u32 = MAX_REGIONS as u32;
 
-// The size of the areas asked for, well within a region.
-const AREA: u32 = 16;
-
 // One more if a call answered E_OK.
 fn counted(good: u32, outcome: Outcome) -> u32 {
     match outcome {
@@ -63,15 +60,15 @@ pub extern "C" fn timing_send_receive(pairs: u32) -> u32 {
     sum
 }
 
-// Domain 1 asks to read in each region in turn; the number of verdicts E_OK.
+// Domain 1 asks to read an area of a size from the start of each region in turn; the number of verdicts E_OK.
 #[no_mangle]
-pub extern "C" fn timing_verdict(count: u32) -> u32 {
+pub extern "C" fn timing_verdict(count: u32, size: u32) -> u32 {
     let s = all_regions();
     let mut good: u32 = 0;
     let mut i: u32 = 0;
     while i < count {
         let base = i % REGIONS * REGION_SIZE;
-        if s.prb_mem(1, base, AREA, READ) == E_OK {
+        if s.prb_mem(1, base, size, READ) == E_OK {
             good = wrapping_add_u32(good, 1);
         }
         i += 1;

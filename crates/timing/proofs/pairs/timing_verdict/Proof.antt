@@ -6,10 +6,10 @@ use Rattle.timing.proofs.pairs.timing_verdict.Statement.{statement}
 use Rattle.timing.proofs.pairs.timing_verdict.Tie as tie
 
 abbrev Inv-loop : tie.InvT-loop
-Inv-loop count s good₀ i₀ good i = (i ≤ count) × Valid s
+Inv-loop count size s good₀ i₀ good i = (i ≤ count) × Valid s
 
 abbrev μ-loop : tie.MeasureT-loop
-μ-loop count s good₀ i₀ good i = count - i
+μ-loop count size s good₀ i₀ good i = count - i
 
 all-regions-requires : tie.Need-all-regions-requires Inv-loop μ-loop
 all-regions-requires c κs = search needs

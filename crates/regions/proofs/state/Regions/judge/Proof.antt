@@ -1,5 +1,6 @@
 -- `Regions::judge` meets its contract: refused, no region, or the verdict from the region that was found on. Assumes nothing.
 use borrow.Author.Needs.{needs}
+use Prim.Native.Nat.{_<_}
 use native.Mathlib.Omega.{arith}
 use mathlib.Core.Path.{_≡_, sym, ap, _∙_}
 use mathlib.Core.Bool.{true}
@@ -13,6 +14,7 @@ use Rattle.model.specs.Regions.{areaOk, fromHolder, judge}
 use Rattle.regions.specs.View.{regionsOf}
 use Rattle.regions.specs.declared.search.Found.the-variants.{At}
 use Rattle.regions.specs.Search.{lookup, foundFrom}
+use Rattle.regions.proofs.Cells.{region-at}
 use Rattle.regions.proofs.Searches.{lookup-low, finds-holder, is-nothing}
 use Rattle.regions.proofs.OneRegion.{in-order}
 use Rattle.regions.proofs.Checks.{rules}
@@ -44,13 +46,38 @@ found : (c : tie.After-index) → let a = c .before .before .before .before .bef
     lookup (a .t1 .bases) (a .t1 .sizes) (a .base) 0 (a .t1 .count) ≡ At (c .index .given .0 .0)
 found c = sym (c .before .before .find .ensures) ∙ c .index .given .1
 
+low : (c : tie.After-index) → let a = c .before .before .before .before .before .before .before .before .before .before .args in c .index .given .0 .0 < a .t1 .count
+low c =
+    let a = c .before .before .before .before .before .before .before .before .before .before .args in
+    let l = lookup-low (a .t1 .bases) (a .t1 .sizes) (a .base) (a .t1 .count) 0 (c .index .given .0 .0) (found c) in
+    omega arith
+
+mul-protection : tie.Need-mul-protection
+mul-protection c = let l = low (c .before) in search needs
+
+element-copy-out-protection : tie.Need-element-copy-out-protection
+element-copy-out-protection c = let l = low (c .before) in search needs
+
+mul-of : tie.Need-mul-of
+mul-of c = let l = low (c .before .before) in search needs
+
+element-copy-out-of : tie.Need-element-copy-out-of
+element-copy-out-of c = let l = low (c .before .before) in search needs
+
+mul-of-2 : tie.Need-mul-of-2
+mul-of-2 c = let l = low (c .before .before .before) in search needs
+
+element-copy-out-of-2 : tie.Need-element-copy-out-of-2
+element-copy-out-of-2 c = let l = low (c .before .before .before) in search needs
+
+of-requires : tie.Need-of-requires
+of-requires c κs = search needs
+
 judge-at-requires : tie.Need-judge-at-requires
 judge-at-requires c κs =
-    let x = c .before in
+    let x = c .before .before .before .before .before in
     let s = x .before .before .before .before .before .before .before .before .before .before in
-    let r = s .args .t1 in
-    let l = lookup-low (r .bases) (r .sizes) (s .args .base) (r .count) 0 (x .index .given .0 .0) (found x) in
-    (s .pre, omega arith)
+    (s .pre, low x, c .of .ensures ∙ region-at (s .pre) (x .index .given .0 .0))
 
 enum-told : tie.Need-enum-told
 enum-told c = search needs
@@ -58,7 +85,7 @@ enum-told c = search needs
 returns-2 : tie.Need-returns-2
 unfolding judge
 returns-2 c =
-    let x = c .before .before in
+    let x = c .before .before .before .before .before .before in
     let q = x .before .before .before .before .before .before .before .before in
     let s = q .before .before in
     let a = s .args in
@@ -88,6 +115,13 @@ judge-spec =
     returns
     find-requires
     enum-known-index
+    mul-protection
+    element-copy-out-protection
+    mul-of
+    element-copy-out-of
+    mul-of-2
+    element-copy-out-of-2
+    of-requires
     judge-at-requires
     enum-told
     returns-2

@@ -14,9 +14,6 @@ use Rattle.regions.proofs.Checks.{judges, judged-at}
 use Rattle.regions.proofs.state.Regions.judge_at.Statement.{statement}
 use Rattle.regions.proofs.state.Regions.judge_at.Tie as tie
 
-at-requires : tie.Need-at-requires
-at-requires c κs = search needs
-
 add-reaches : tie.Need-add-reaches
 add-reaches c = search needs
 
@@ -27,16 +24,15 @@ allows-requires : tie.Need-allows-requires
 allows-requires c κs = search needs
 
 -- the ladder, by what the two tests gave
-ladder : (c : tie.After-allows) → let a = c .before .before .before .args in
+ladder : (c : tie.After-allows) → let a = c .before .before .args in
     judges (c .before .reaches .result) (c .allows .result) ≡ resultOf (judgeIn (drop (a .index) (regionsOf (a .self))) (a .domain) (a .base) (a .size) (a .wishes))
 ladder c =
-    let x = c .before .before in
-    let s = x .before in
+    let s = c .before .before in
     let a = s .args in
     let n = count-of (s .pre .0) in
     let l = s .pre .1 in
     let p = c .before .reaches .ensures in
-    let q = rw (toZ-ofZ (s .fits .domain)) at (c .allows .ensures) ∙ ap (λ (r : RegionInfo). allows (shownAs r) (a .domain) (a .wishes)) (x .at .ensures) in
+    let q = rw (toZ-ofZ (s .fits .domain)) at (c .allows .ensures) ∙ ap (λ (r : RegionInfo). allows (shownAs r) (a .domain) (a .wishes)) (s .pre .2) in
     (λ i. judges (p i) (q i)) ∙ judged-at (regionsOf (a .self)) (a .index) (omega arith) (a .domain) (a .base) (a .size) (a .wishes)
 
 returns : tie.Need-returns
@@ -54,5 +50,4 @@ returns-3 c =
 
 pub judge-at-spec : {M : Type 1} → statement M
 judge-at-spec =
-    tie.close
-    (tie.spec at-requires add-reaches reaches-requires allows-requires returns returns-2 returns-3)
+    tie.close (tie.spec add-reaches reaches-requires allows-requires returns returns-2 returns-3)

@@ -1,121 +1,33 @@
--- `Regions::reaches` meets its contract. The invariant: the area lies within the chain from the first region on if it does from the region at `at` on. Assumes nothing.
-use Prim.Native.Nat.{_+_, _-_, _<_}
-use native.Mathlib.Omega.{arith}
+-- `Regions::reaches` meets its contract: the area ends in its first region, or it takes a walk. Assumes nothing.
 use borrow.Author.Needs.{needs}
-use borrow.Author.Tests.{not-true, not-false}
-use mathlib.Core.Path.{_≡_, refl, sym, ap, _∙_}
-use mathlib.Core.Bool.{Bool, _&&_}
-use lib.ListN.{length, drop, getD}
-use Rattle.model.specs.State.{noRegion}
-use Rattle.model.specs.Regions.{end, touches, isEqual, inChain}
+use native.Mathlib.Omega.{arith}
+use mathlib.Core.Path.{sym, ap, _∙_}
+use Rattle.model.specs.Regions.{end}
 use Rattle.regions.specs.declared.state.RegionInfo.{RegionInfo}
-use Rattle.regions.specs.View.{regionsOf, infoOf, shownAs}
+use Rattle.regions.specs.View.{regionsOf, shownAs}
 use Rattle.regions.proofs.Cells.{count-of}
-use Rattle.regions.proofs.Chains.{chain-ends, chain-stops, chain-goes}
+use Rattle.regions.proofs.Chains.{chain-ends}
 use Rattle.regions.proofs.state.Regions.reaches.Statement.{statement}
 use Rattle.regions.proofs.state.Regions.reaches.Tie as tie
 
-abbrev Inv-loop : tie.InvT-loop
-Inv-loop self index end count at₀ region₀ at region =
-    (at < count) × (region ≡ infoOf (getD (regionsOf self) at noRegion)) × (inChain (drop index (regionsOf self)) end ≡ inChain (drop at (regionsOf self)) end)
-
-abbrev μ-loop : tie.MeasureT-loop
-μ-loop self index end count at₀ region₀ at region = count - at
-
-loop-holds : tie.Need-loop-holds Inv-loop μ-loop
-loop-holds c = (c .pre .1, c .pre .2, refl)
-
-end-requires : tie.Need-end-requires Inv-loop μ-loop
+end-requires : tie.Need-end-requires
 end-requires c κs = search needs
 
--- the end that was compared is that of the region at `at`, which is one of the regions
-ends : (c : tie.After-end Inv-loop μ-loop) → let b = c .before in c .end .result ≡ end (getD (regionsOf (b .before .args .self)) (b .loop .at) noRegion)
-ends c = c .end .ensures ∙ ap (λ (x : RegionInfo). end (shownAs x)) (c .before .loop .inv .1)
-
-low : (c : tie.At-loop Inv-loop μ-loop) → c .loop .at < length (regionsOf (c .before .args .self))
-low c = let n = count-of (c .before .pre .0) in let l = c .loop .inv .0 in omega arith
-
-add-next : tie.Need-add-next Inv-loop μ-loop
-add-next c = search needs
-
--- the area goes past that region
-past : (c : tie.Then1 Inv-loop μ-loop) → let b = c .before .before in end (getD (regionsOf (b .before .args .self)) (b .loop .at) noRegion) < b .before .args .end
-past c = let e = ends (c .before) in let h = c .if1 .taken in omega arith
-
-returns : tie.Need-returns Inv-loop μ-loop
+returns : tie.Need-returns
 returns c =
-    let b = c .before .before .before in
-    let a = b .before .args in
-    let n = count-of (b .before .pre .0) in
-    let t = c .if2 .taken in
-    sym (b .loop .inv .2 ∙ chain-stops (regionsOf (a .self)) (a .end) (b .loop .at) (low b) (past (c .before)) (omega arith))
+    let s = c .before .before in
+    let a = s .args in
+    let n = count-of (s .pre .0) in
+    let l = s .pre .1 in
+    let e = c .before .end .ensures ∙ ap (λ (x : RegionInfo). end (shownAs x)) (s .pre .2) in
+    let h = c .if1 .taken in
+    sym (chain-ends (regionsOf (a .self)) (a .end) (a .index) (omega arith) (omega arith))
 
-at-requires : tie.Need-at-requires Inv-loop μ-loop
-at-requires c κs = search needs
+walk-requires : tie.Need-walk-requires
+walk-requires c κs = search needs
 
-touches-requires : tie.Need-touches-requires Inv-loop μ-loop
-touches-requires c κs = search needs
-
-equals-requires : tie.Need-equals-requires Inv-loop μ-loop
-equals-requires c κs = search needs
-
--- the two tests are those of the regions at `at` and behind it, and decide whether the chain goes on
-goes : (c : tie.After-equals Inv-loop μ-loop) → let b = c .before .before .before .before .before .before in let a = b .before .args in
-    inChain (drop (b .loop .at) (regionsOf (a .self))) (a .end) ≡ (c .before .touches .result && c .equals .result) && inChain (drop (b .loop .at + 1) (regionsOf (a .self))) (a .end)
-goes c =
-    let x = c .before .before in
-    let b = x .before .before .before .before in
-    let a = b .before .args in
-    let rs = regionsOf (a .self) in
-    let r = b .loop .inv .1 in
-    let f = x .at .ensures in
-    let t = c .before .touches .ensures ∙ (λ i. touches (shownAs (r i)) (shownAs (f i))) in
-    let q = c .equals .ensures ∙ (λ i. isEqual (shownAs (r i)) (shownAs (f i))) in
-    let n = count-of (b .before .pre .0) in
-    let l = b .loop .inv .0 in
-    let h = x .before .if2 .left in
-    chain-goes rs (a .end) (b .loop .at) (low b) (past (x .before .before)) (omega arith)
-    ∙ (λ i. (sym t i && sym q i) && inChain (drop (b .loop .at + 1) rs) (a .end))
-
-returns-2 : tie.Need-returns-2 Inv-loop μ-loop
-returns-2 c =
-    let e = c .before in
-    let b = e .before .before .before .before .before .before in
-    let a = b .before .args in
-    sym (b .loop .inv .2 ∙ goes e ∙ ap (λ (t : Bool). t && inChain (drop (b .loop .at + 1) (regionsOf (a .self))) (a .end)) (not-true (e .before .touches .result && e .equals .result) (c .if3 .taken)))
-
-loop-less : tie.Need-loop-less Inv-loop μ-loop
-loop-less c = search needs
-
-loop-again : tie.Need-loop-again Inv-loop μ-loop
-loop-again c =
-    let e = c .before in
-    let b = e .before .before .before .before .before .before in
-    let a = b .before .args in
-    (search needs, e .before .before .at .ensures, b .loop .inv .2 ∙ goes e ∙ ap (λ (t : Bool). t && inChain (drop (b .loop .at + 1) (regionsOf (a .self))) (a .end)) (not-false (e .before .touches .result && e .equals .result) (c .if3 .left)))
-
-returns-3 : tie.Need-returns-3 Inv-loop μ-loop
-returns-3 c =
-    let b = c .before .before in
-    let a = b .before .args in
-    let e = ends (c .before) in
-    let h = c .if1 .left in
-    sym (b .loop .inv .2 ∙ chain-ends (regionsOf (a .self)) (a .end) (b .loop .at) (low b) (omega arith))
+returns-2 : tie.Need-returns-2
+returns-2 c = search needs
 
 pub reaches-spec : {M : Type 1} → statement M
-reaches-spec =
-    tie.close
-    (tie.spec
-    Inv-loop
-    μ-loop
-    loop-holds
-    end-requires
-    add-next
-    returns
-    at-requires
-    touches-requires
-    equals-requires
-    returns-2
-    loop-less
-    loop-again
-    returns-3)
+reaches-spec = tie.close (tie.spec end-requires returns walk-requires returns-2)
