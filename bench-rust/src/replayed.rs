@@ -83,24 +83,47 @@ fn random_vector(random: &mut Random) -> Vector {
     Vector::new(pattern(), pattern(), pattern(), pattern())
 }
 
-/// The region taken last: its end, and what the next must be equal in to be joined to it.
-#[derive(Default)]
-struct Last {
-    end: u32,
+/// What regions must be equal in to be joined.
+#[derive(Clone, Copy, Default)]
+struct Protection {
     domain: i32,
     atr: u32,
     vector: Option<Vector>,
 }
 
+fn with_another_pattern(random: &mut Random, vector: Vector) -> Vector {
+    let mut patterns = [vector.normal1, vector.normal2, vector.management, vector.reference];
+    patterns[random.below(patterns.len())] ^= 4;
+    let [normal1, normal2, management, reference] = patterns;
+    Vector::new(normal1, normal2, management, reference)
+}
+
+impl Protection {
+    /// Half of the time this one again, or this one but for one thing.
+    fn next(self, random: &mut Random, new: Protection) -> Protection {
+        match random.below(10) {
+            0..=4 => self,
+            5 => Protection { domain: new.domain, ..self },
+            6 => Protection { atr: new.atr, ..self },
+            7 => Protection { vector: self.vector.map(|vector| with_another_pattern(random, vector)), ..self },
+            _ => new,
+        }
+    }
+}
+
+/// The region taken last.
+#[derive(Default)]
+struct Last {
+    end: u32,
+    protection: Protection,
+}
+
 impl Last {
-    /// A region for the most part behind this one, and half of the time equal to it.
-    fn next(&self, random: &mut Random, domain: i32, atr: u32, vector: Option<Vector>) -> (Last, u32, u32) {
+    /// Base and size of a region, for the most part one that touches this one.
+    fn next(&self, random: &mut Random) -> (u32, u32) {
         let odd = random.pick(&[0, 0x800, 0x1000, self.end / 2, self.end.saturating_add(1), 0xFFFF_F000, u32::MAX]);
         let base = random.mostly(self.end, 9, &[odd]);
-        let size = random.mostly(0x1_0000, 3, &[0, 1, 0x800, 0x1000, 0x1001, 0x2_0000, u32::MAX]);
-        let end = base.saturating_add(size);
-        let next = Last { end, domain, atr, vector };
-        (if random.one_in(2) { Last { end, ..*self } } else { next }, base, size)
+        (base, random.mostly(0x1_0000, 3, &[0, 1, 0x800, 0x1000, 0x1001, 0x2_0000, u32::MAX]))
     }
 }
 
@@ -124,11 +147,12 @@ fn entry(random: &mut Random, kernel: &mut Kernel, script: &mut Script, last: &m
             script.add(format!("dtq {domain} {atr} {capacity}{}", given(vector)), answer);
         }
         _ => {
-            let (next, base, size) = last.next(random, domain, atr, vector);
-            let Last { domain, atr, vector, .. } = next;
+            let (base, size) = last.next(random);
+            let protection = last.protection.next(random, Protection { domain, atr, vector });
+            let Protection { domain, atr, vector } = protection;
             let answer = kernel.add_region(domain, atr, base, size, vector);
             if answer.is_ok() {
-                *last = next;
+                *last = Last { end: base.saturating_add(size), protection };
             }
             script.add(format!("mem {domain} {atr} {base} {size}{}", given(vector)), code(answer));
         }

@@ -1,5 +1,5 @@
 -- "Regions that touch and are equal in these count as one for the verdict" (document 02, T-09): a table with one region in the place of
--- two such has the same verdicts. Said of two neighbours anywhere, it holds of chains of any length.
+-- two such has the same verdicts. So it is with one region in the place of a chain of any length.
 use mathlib.Core.Path.{_≡_, refl, sym, ap, _∙_}
 use mathlib.Core.Bool.{Bool, true, false, not, _&&_, _||_}
 use mathlib.Core.List.{List, [], _∷_, _++_}
@@ -18,7 +18,7 @@ use Rattle.model.specs.Regions.{end, touches, isEqual, inChain, allows, 
 use Rattle.model.specs.Verdict.{asks, verdict}
 use Rattle.model.proofs.Tests.{le-tells}
 use Rattle.model.proofs.Tests as Tests
-use Rattle.model.proofs.Chains.{Holds, Joined, joined-tells, holds-tells, chain-last, chain-on, chain-here}
+use Rattle.model.proofs.Chains.{Holds, Joined, Chain, joined-tells, holds-tells, chain-last, chain-on, chain-here}
 
 -- the one region in the place of two
 abbrev pub merged : Region → Region → Region
@@ -122,3 +122,21 @@ count-as-one s before r x behind j d base size w =
     ap
     (λ (o : Option Err). refuseIf (not (s .fixed .closed)) eCtx (refuseIf (not (asks (s .fixed .count) d)) eId (refuseIf (not (areaOk base size w)) ePar o)))
     (by-all r x j d base size w before behind)
+
+-- "chains of any length too"
+abbrev pub mergedAll : Region → List Region → Region
+mergedAll r [] = r
+mergedAll r (x ∷ l) = mergedAll (merged r x) l
+
+merged-chain : (r x : Region) (l : List Region) → Joined r x → Chain (x ∷ l) → Chain (merged r x ∷ l)
+merged-chain r x [] j c = tt
+merged-chain r x (y ∷ l) j c =
+    let k = c .0 in
+    let e = same-end r x j in
+    (record { touch = sym e ∙ k .touch; domain = j .domain ∙ k .domain; attribute = j .attribute ∙ k .attribute; vector = j .vector ∙ k .vector }, c .1)
+
+pub chain-as-one : (s : State) (before : List Region) (r : Region) (l behind : List Region) → Chain (r ∷ l) → (d : ℤ) (base size w : ℕ)
+    → verdict (withRegions s (before ++ (r ∷ (l ++ behind)))) d base size w ≡ verdict (withRegions s (before ++ (mergedAll r l ∷ behind))) d base size w
+chain-as-one s before r [] behind c d base size w = refl
+chain-as-one s before r (x ∷ l) behind c d base size w =
+    count-as-one s before r x (l ++ behind) (c .0) d base size w ∙ chain-as-one s before (merged r x) l behind (merged-chain r x l (c .0) (c .1)) d base size w

@@ -56,11 +56,11 @@ isChain [] = true
 isChain (r ∷ []) = true
 isChain (r ∷ (x ∷ rs)) = (touches r x && isEqual r x) && isChain (x ∷ rs)
 
--- whether regions are a chain that goes up to an address
+-- whether regions are a chain, and an area that starts in the first of them and ends at an address lies within their union
 abbrev pub isChainTo : ℕ → List Region → Bool
 isChainTo a rs = isChain rs && leb a (lastEnd rs)
 
--- whether an area that starts in the first of the regions and ends at an address lies within a chain, of any length, of regions from the first on
+-- whether some of the regions, from the first on, are such a chain
 unfoldable pub inChain : List Region → ℕ → Bool
 inChain rs a = anyOf (isChainTo a) (beginnings rs)
 

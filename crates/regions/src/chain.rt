@@ -1,11 +1,9 @@
 // Regions that touch and are equal count as one for the verdict (document 02, T-09).
 ghost use mathlib.Core.Path.{_≡_};
-ghost use Prim.Native.Nat.{_<_};
-ghost use lib.ListN.{drop, getD};
+ghost use lib.ListN.{drop};
 ghost use Rattle.model.specs.Regions.{touches, isEqual, inChain};
-ghost use Rattle.model.specs.State.{noRegion};
-ghost use Rattle.regions.specs.View.{regionsOf, infoOf, shownAs};
-ghost use Rattle.regions.specs.Held.{Held};
+ghost use Rattle.regions.specs.View.{regionsOf, shownAs};
+ghost use Rattle.regions.specs.Held.{Indexed};
 use crate::state::RegionInfo;
 use crate::state::Regions;
 use access::domain::is_same;
@@ -29,10 +27,10 @@ impl RegionInfo {
 }
 
 impl Regions {
-    // Whether an area that starts in a region, given with its index, and ends at an address lies within the chain from there on. Most
-    // areas end in the region that they start in, and need no walk.
+    // Whether an area that starts in a region, given with its index, and ends at an address lies within the chain from there on.
+    // Most areas end in the region that they start in, and need no walk.
     pub(crate) fn reaches(self, index: usize, first: RegionInfo, end: u64) -> bool
-        requires { ⌜ Held self × (index < self .count) × (first ≡ infoOf (getD (regionsOf self) index noRegion)) ⌝ }
+        requires { ⌜ Indexed self index first ⌝ }
         ensures { λ r. ⌜ r ≡ inChain (drop index (regionsOf self)) end ⌝ }
     {
         if end <= first.end() {
@@ -41,9 +39,9 @@ impl Regions {
         self.walk(index, first, end)
     }
 
-    // The same, from region to region. The cells are read here and not by `at`, which would take a copy of all regions at each step.
+    // The same, from region to region; each is read in place, since `at` would take a copy of all regions.
     pub(crate) fn walk(self, index: usize, first: RegionInfo, end: u64) -> bool
-        requires { ⌜ Held self × (index < self .count) × (first ≡ infoOf (getD (regionsOf self) index noRegion)) ⌝ }
+        requires { ⌜ Indexed self index first ⌝ }
         ensures { λ r. ⌜ r ≡ inChain (drop index (regionsOf self)) end ⌝ }
     {
         let count = self.count;

@@ -1,12 +1,10 @@
 // The memory verdict on a closed table for a known domain (document 01, "The memory verdict").
 ghost use mathlib.Core.Path.{_≡_};
-ghost use Prim.Native.Nat.{_<_};
-ghost use lib.ListN.{drop, getD};
-ghost use Rattle.model.specs.State.{noRegion};
+ghost use lib.ListN.{drop};
 ghost use Rattle.model.specs.Answers.{resultOf};
 ghost use Rattle.model.specs.Regions.{end, mayWrite, mayRead, mayExecute, grants, allows, wishesOk, areaOk, judgeIn, judge};
-ghost use Rattle.regions.specs.View.{regionsOf, infoOf, shownAs};
-ghost use Rattle.regions.specs.Held.{Held};
+ghost use Rattle.regions.specs.View.{regionsOf, shownAs};
+ghost use Rattle.regions.specs.Held.{Held, Indexed};
 use crate::entry::is_area;
 use crate::flag::EXECUTABLE;
 use crate::flag::EXECUTE;
@@ -97,7 +95,7 @@ impl Regions {
         size: u32,
         wishes: u32,
     ) -> i32
-        requires { ⌜ Held self × (index < self .count) × (region ≡ infoOf (getD (regionsOf self) index noRegion)) ⌝ }
+        requires { ⌜ Indexed self index region ⌝ }
         ensures { λ r. ⌜ r ≡ resultOf (judgeIn (drop index (regionsOf self)) domain base size wishes) ⌝ }
     {
         let inside = self.reaches(index, region, base as u64 + size as u64);
@@ -111,7 +109,7 @@ impl Regions {
         E_OK
     }
 
-    // The code of the verdict, whatever is asked. The region's cells are read here and not by `at`, which would take a copy of all regions.
+    // The code of the verdict, whatever is asked; the region is read in place, since `at` would take a copy of all regions.
     pub fn judge(self, domain: i32, base: u32, size: u32, wishes: u32) -> i32
         requires { ⌜ Held self ⌝ }
         ensures { λ r. ⌜ r ≡ resultOf (judge (regionsOf self) domain base size wishes) ⌝ }

@@ -77,7 +77,7 @@ judge-at-requires : tie.Need-judge-at-requires
 judge-at-requires c κs =
     let x = c .before .before .before .before .before in
     let s = x .before .before .before .before .before .before .before .before .before .before in
-    (s .pre, low x, c .of .ensures ∙ region-at (s .pre) (x .index .given .0 .0))
+    record { held = s .pre; low = low x; same = c .of .ensures ∙ region-at (s .pre) (x .index .given .0 .0) }
 
 enum-told : tie.Need-enum-told
 enum-told c = search needs

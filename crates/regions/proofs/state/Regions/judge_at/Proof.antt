@@ -29,10 +29,10 @@ ladder : (c : tie.After-allows) → let a = c .before .before .args in
 ladder c =
     let s = c .before .before in
     let a = s .args in
-    let n = count-of (s .pre .0) in
-    let l = s .pre .1 in
+    let n = count-of (s .pre .held) in
+    let l = s .pre .low in
     let p = c .before .reaches .ensures in
-    let q = rw (toZ-ofZ (s .fits .domain)) at (c .allows .ensures) ∙ ap (λ (r : RegionInfo). allows (shownAs r) (a .domain) (a .wishes)) (s .pre .2) in
+    let q = rw (toZ-ofZ (s .fits .domain)) at (c .allows .ensures) ∙ ap (λ (r : RegionInfo). allows (shownAs r) (a .domain) (a .wishes)) (s .pre .same) in
     (λ i. judges (p i) (q i)) ∙ judged-at (regionsOf (a .self)) (a .index) (omega arith) (a .domain) (a .base) (a .size) (a .wishes)
 
 returns : tie.Need-returns

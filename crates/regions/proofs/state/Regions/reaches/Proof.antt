@@ -17,9 +17,9 @@ returns : tie.Need-returns
 returns c =
     let s = c .before .before in
     let a = s .args in
-    let n = count-of (s .pre .0) in
-    let l = s .pre .1 in
-    let e = c .before .end .ensures ∙ ap (λ (x : RegionInfo). end (shownAs x)) (s .pre .2) in
+    let n = count-of (s .pre .held) in
+    let l = s .pre .low in
+    let e = c .before .end .ensures ∙ ap (λ (x : RegionInfo). end (shownAs x)) (s .pre .same) in
     let h = c .if1 .taken in
     sym (chain-ends (regionsOf (a .self)) (a .end) (a .index) (omega arith) (omega arith))
 

@@ -23,7 +23,7 @@ abbrev μ-loop : tie.MeasureT-loop
 μ-loop index end self count at₀ region₀ at region = count - at
 
 loop-holds : tie.Need-loop-holds Inv-loop μ-loop
-loop-holds c = (c .pre .1, c .pre .2, refl)
+loop-holds c = (c .pre .low, c .pre .same, refl)
 
 end-requires : tie.Need-end-requires Inv-loop μ-loop
 end-requires c κs = search needs
@@ -33,7 +33,7 @@ ends : (c : tie.After-end Inv-loop μ-loop) → let b = c .before in c .end .res
 ends c = c .end .ensures ∙ ap (λ (x : RegionInfo). end (shownAs x)) (c .before .loop .inv .1)
 
 low : (c : tie.At-loop Inv-loop μ-loop) → c .loop .at < length (regionsOf (c .before .args .t1))
-low c = let n = count-of (c .before .pre .0) in let l = c .loop .inv .0 in omega arith
+low c = let n = count-of (c .before .pre .held) in let l = c .loop .inv .0 in omega arith
 
 add-next : tie.Need-add-next Inv-loop μ-loop
 add-next c = search needs
@@ -46,7 +46,7 @@ returns : tie.Need-returns Inv-loop μ-loop
 returns c =
     let b = c .before .before .before in
     let a = b .before .args in
-    let n = count-of (b .before .pre .0) in
+    let n = count-of (b .before .pre .held) in
     let t = c .if2 .taken in
     sym (b .loop .inv .2 ∙ chain-stops (regionsOf (a .t1)) (a .end) (b .loop .at) (low b) (past (c .before)) (omega arith))
 
@@ -74,7 +74,7 @@ of-requires c κs = search needs
 -- the region that was read is the one behind
 follows : (c : tie.After-of Inv-loop μ-loop) → let b = c .before .before .before .before .before .before .before in
     c .of .result ≡ infoOf (getD (regionsOf (b .before .args .t1)) (b .loop .at + 1) noRegion)
-follows c = let b = c .before .before .before .before .before .before .before in c .of .ensures ∙ region-at (b .before .pre .0) (b .loop .at + 1)
+follows c = let b = c .before .before .before .before .before .before .before in c .of .ensures ∙ region-at (b .before .pre .held) (b .loop .at + 1)
 
 touches-requires : tie.Need-touches-requires Inv-loop μ-loop
 touches-requires c κs = search needs
@@ -95,7 +95,7 @@ goes c =
     let f = follows x in
     let t = c .before .touches .ensures ∙ (λ i. touches (shownAs (r i)) (shownAs (f i))) in
     let q = c .equals .ensures ∙ (λ i. isEqual (shownAs (r i)) (shownAs (f i))) in
-    let n = count-of (b .before .pre .0) in
+    let n = count-of (b .before .pre .held) in
     let l = b .loop .inv .0 in
     let h = e .if2 .left in
     chain-goes rs (a .end) (b .loop .at) (low b) (past (e .before)) (omega arith) ∙ (λ i. (sym t i && sym q i) && inChain (drop (b .loop .at + 1) rs) (a .end))
