@@ -1,9 +1,9 @@
 -- Regions that count as one (document 02, T-09): what a chain is by plain facts, and laws of `inChain` for who walks along one
 use mathlib.Core.Path.{_≡_, refl, sym, ap, _∙_, subst}
 use mathlib.Core.Logic.{_⊎_, inl, inr}
-use mathlib.Core.Bool.{Bool, true, false, not, _&&_, _||_, and-assoc, and-true, and-or-distrib-left, or-false}
+use mathlib.Core.Bool.{Bool, true, false, _&&_, _||_, and-assoc, and-or-distrib-left, or-false}
 use mathlib.Core.List.{List, [], _∷_, _++_, map}
-use Prim.Native.Nat.{ℕ, zero, suc, _+_, _-_, _≤_, _<_}
+use Prim.Native.Nat.{ℕ, _+_, _-_, _≤_, _<_}
 use native.Mathlib.Omega.{arith}
 use lib.Dec.{leb}
 use lib.IntN.{ℤ}
@@ -15,7 +15,6 @@ use Rattle.model.specs.State.{Vector, Region}
 use Rattle.model.specs.Regions.{end, lastEnd, touches, isEqual, isChain, isChainTo, inChain, holds}
 use Rattle.model.proofs.Lists.{no-both}
 use Rattle.model.proofs.Tests.{Tells, le-tells, lt-tells, eq-tells, and-tells, iff-tells}
-use Rattle.model.proofs.Tests as Tests
 
 -- ---- an area within a chain, from one region to the next
 any-map : {A B : Type 0} (p : B → Bool) (f : A → B) (l : List A) → anyOf p (map f l) ≡ anyOf (λ (x : A). p (f x)) l

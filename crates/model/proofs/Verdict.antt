@@ -3,7 +3,7 @@ use mathlib.Core.Path.{_≡_, refl, sym, ap, _∙_, subst}
 use mathlib.Core.Logic.{_≢_, _⊎_, inl, inr}
 use mathlib.Core.Bool.{Bool, true, false, not}
 use mathlib.Core.List.{List, [], _∷_, _++_}
-use mathlib.Core.Option.{Option, none, some}
+use mathlib.Core.Option.{none, some}
 use Prim.Native.Nat.{ℕ, zero, suc, _+_, _≤_, _<_, _/_, _%_}
 use native.Mathlib.Omega.{arith}
 use native.Mathlib.Nat.{div-one}
@@ -17,7 +17,7 @@ use Rattle.model.specs.State.{Region, State}
 use Rattle.model.specs.Regions.{mayRead, grants, allows, holds, inChain, fromHolder, judgeIn, areaOk, judge}
 use Rattle.model.specs.Verdict.{asks, verdict}
 use Rattle.model.proofs.Lists.{no-both}
-use Rattle.model.proofs.Tests.{Tells, le-tells, lt-tells, eq-tells, true-tells, always-tells, never-tells, and-tells, not-tells, passes-on, stops-at, passed-by}
+use Rattle.model.proofs.Tests.{Tells, le-tells, eq-tells, true-tells, always-tells, never-tells, and-tells, not-tells, passes-on, stops-at, passed-by}
 use Rattle.model.proofs.Tests as Tests
 use Rattle.model.proofs.Chains.{Holds, holds-tells, Joined, Chain, InUnion, Reached, chain-tells}
 

@@ -9,7 +9,6 @@ use Rattle.arrays.specs.Pad.{pad}
 use Rattle.arrays.proofs.Pads.{pad-get, pad-snoc}
 use Rattle.model.specs.State.{Region, noRegion}
 use Rattle.regions.specs.declared.state.Regions.{Regions}
-use Rattle.regions.specs.declared.state.RegionInfo.{RegionInfo}
 use Rattle.regions.specs.View.{regionWith, regionsOf, infoOf}
 use Rattle.regions.specs.Form.{baseOf, sizeOf, protectionOf, noProtection, regionsAs}
 use Rattle.regions.specs.Held.{Held}
