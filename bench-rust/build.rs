@@ -2,7 +2,7 @@
 
 use std::path::Path;
 
-const ARCHIVES: [&str; 2] = ["timing", "host"];
+const ARCHIVES: [&str; 3] = ["timing", "host", "finding"];
 
 fn main() {
     let root = std::env::var("CARGO_MANIFEST_DIR").expect("cargo names the manifest's folder");

@@ -503,14 +503,18 @@ impl Kernel {
         Ok(Done::OK)
     }
 
+    /// The index of the region that holds an address, by a walk from the first.
+    pub fn region_of(&self, address: u32) -> Option<usize> {
+        self.regions.entries[..self.regions.count].iter().position(|region| region.holds(address))
+    }
+
     /// The memory verdict: the region that holds the base decides, with the chain from there on.
     pub fn prb_mem(&self, domain: i32, base: u32, size: u32, wish: u32) -> Check {
         ensure(self.closed, E_CTX)?;
         ensure(domain == TDOM_KERNEL || self.is_user(domain), E_ID)?;
         let end = u64::from(base) + u64::from(size);
         ensure(size > 0 && wish != 0 && wish & !TPM_ALL == 0 && end <= ADDRESSES, E_PAR)?;
-        let regions = &self.regions.entries[..self.regions.count];
-        let region = regions.iter().find(|region| region.holds(base)).ok_or(E_NOEXS)?;
+        let region = &self.regions.entries[self.region_of(base).ok_or(E_NOEXS)?];
         ensure(end <= region.chain_end, E_OBJ)?;
         let write = region.atr & TA_RO == 0 && admits(region.vector.normal1, domain);
         let read = admits(region.vector.normal2, domain);

@@ -83,19 +83,29 @@ pub fn listed(pairs: u32) -> u32 {
 }
 
 /// As many regions as there may be, each touching the next and equal to it.
-const REGIONS: u32 = 64;
+pub const REGIONS: u32 = 64;
 pub const REGION_SIZE: u32 = 4096;
 
-pub fn verdict(count: u32, size: u32) -> u32 {
-    let mut kernel = Kernel::EMPTY;
-    build(&mut kernel, 2, |kernel| {
-        let vector = Some(Vector::new(1, 1, 0, 1));
-        (0..REGIONS).try_for_each(|k| kernel.add_region(TDOM_KERNEL, 0, REGION_SIZE * k, REGION_SIZE, vector))
+pub fn starts() -> Vec<u32> {
+    (0..REGIONS).map(|k| REGION_SIZE * k).collect()
+}
+
+pub fn all_regions(kernel: &mut Kernel) {
+    let vector = Some(Vector::new(1, 1, 0, 1));
+    build(kernel, 2, |kernel| {
+        starts().into_iter().try_for_each(|base| kernel.add_region(TDOM_KERNEL, 0, base, REGION_SIZE, vector))
     });
+}
+
+pub fn verdict(rounds: u32, bases: &[u32], size: u32) -> u32 {
+    let mut kernel = Kernel::EMPTY;
+    all_regions(&mut kernel);
     let mut good = 0;
-    for round in 0..count {
-        let kernel = black_box(&mut kernel);
-        good += u32::from(kernel.prb_mem(1, REGION_SIZE * (round % REGIONS), size, TPM_READ).is_ok());
+    for _ in 0..rounds {
+        for &base in bases {
+            let kernel = black_box(&mut kernel);
+            good += u32::from(kernel.prb_mem(1, base, size, TPM_READ).is_ok());
+        }
     }
     good
 }

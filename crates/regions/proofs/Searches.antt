@@ -1,12 +1,15 @@
--- Laws of `lookup`: what a walk from the first region keeps, and that it finds the region from which the model's `fromHolder` goes on. Assumes nothing.
+-- Laws of `lookup`: it is decided by one region where no other can hold the address, and it finds the region from which the model's `fromHolder` goes on. Assumes nothing.
 use Prim.Native.Nat.{ℕ, zero, suc, _+_, _-_, _≤_, _<_}
 use native.Mathlib.Omega.{arith}
-use native.Mathlib.Numerals.{add-one}
+use native.Mathlib.Nat.{eq-or-lt-of-le}
 use mathlib.Core.Path.{_≡_, refl, sym, ap, _∙_}
 use mathlib.Core.Bool.{Bool, true, false}
+use mathlib.Core.Logic.{⊎-elim}
 use mathlib.Core.List.{List, [], _∷_}
+use lib.Dec.{ltb}
 use lib.ListN.{length, getD, drop, drop-of-length-le}
 use lib.Seq.{drop-cons}
+use borrow.Author.Tests.{ltb-true, ltb-false, le-leb, lt-leb, le-ltb, lt-ltb}
 use types.Run.{OneOf}
 use denote.Enum.Declared.{tagOf}
 use Rattle.access.specs.Patterns.{pick}
@@ -21,30 +24,50 @@ use Rattle.regions.specs.Search.{coveredBy, lookup, foundFrom}
 use Rattle.regions.proofs.search.Found.{the-type as found-type}
 use Rattle.regions.proofs.Cells.{count-of, base-at, size-at}
 
+-- ---- an area that starts past an address, or ends before it, does not hold it; one that starts no later does if the distance is less than its size
+pub starts-past : (start size a : ℕ) → a < start → coveredBy start size a ≡ false
+starts-past start size a h = simp (lt-leb start a h)
+
+pub ends-before : (start size a : ℕ) → start + size ≤ a → coveredBy start size a ≡ false
+ends-before start size a h = simp (le-leb start a (omega arith), le-ltb a (start + size) h)
+
+pub by-distance : (start size a : ℕ) → start ≤ a → ltb (a - start) size ≡ coveredBy start size a
+by-distance start size a h = go (ltb (a - start) size) refl
+  where
+    go : (b : Bool) → ltb (a - start) size ≡ b → b ≡ coveredBy start size a
+    go true e = let l = ltb-true (a - start) size e in sym (simp (le-leb start a h, lt-ltb a (start + size) (omega arith)))
+    go false e = let l = ltb-false (a - start) size e in sym (simp (le-leb start a h, le-ltb a (start + size) (omega arith)))
+
 module _ (bs ss : List ℕ) (a : ℕ) where
   abbrev test : ℕ → Bool
   test i = coveredBy (getD bs i 0) (getD ss i 0) a
 
-  -- ---- the walk, with n regions in all and i behind it
-  pub walk-start : (n : ℕ) → lookup bs ss a 0 n ≡ lookup bs ss a 0 (n - 0)
-  walk-start n = ap (lookup bs ss a 0) (omega arith)
-
-  pub walk-hit : (n i : ℕ) → i < n → test i ≡ true → lookup bs ss a i (n - i) ≡ At i
+  -- ---- no region holds the address where there is none
+  pub no-region : (n i : ℕ) → n ≡ 0 → lookup bs ss a i n ≡ Nothing
   unfolding lookup
-  walk-hit n i l h =
-      let e : n - i ≡ suc (n - suc i) = omega arith in
-      ap (lookup bs ss a i) e ∙ ap (λ (b : Bool). pick b (At i) (lookup bs ss a (suc i) (n - suc i))) h
+  no-region n i e = ap (lookup bs ss a i) e
 
-  pub walk-on : (n i : ℕ) → i < n → test i ≡ false → lookup bs ss a i (n - i) ≡ lookup bs ss a (i + 1) (n - (i + 1))
+  -- ---- where no region but m can hold the address, m decides
+  none-holds : (n i : ℕ) → ((k : ℕ) → i ≤ k → k < i + n → test k ≡ false) → lookup bs ss a i n ≡ Nothing
   unfolding lookup
-  walk-on n i l h =
-      let e : n - i ≡ suc (n - suc i) = omega arith in
-      ap (lookup bs ss a i) e ∙ ap (λ (b : Bool). pick b (At i) (lookup bs ss a (suc i) (n - suc i))) h
-      ∙ ap (λ (k : ℕ). lookup bs ss a k (n - k)) (sym (add-one i))
+  none-holds zero i h = refl
+  none-holds (suc n) i h =
+      ap (λ (b : Bool). pick b (At i) (lookup bs ss a (suc i) n)) (h i (omega arith) (omega arith))
+      ∙ none-holds n (suc i) (λ k l l′. h k (omega arith) (omega arith))
 
-  pub walk-end : (n i : ℕ) → n ≤ i → lookup bs ss a i (n - i) ≡ Nothing
+  pub one-decides : (n i m : ℕ) → i ≤ m → m < i + n → ((k : ℕ) → k < m → test k ≡ false) → ((k : ℕ) → m < k → k < i + n → test k ≡ false)
+      → lookup bs ss a i n ≡ pick (test m) (At m) Nothing
   unfolding lookup
-  walk-end n i l = let e : n - i ≡ 0 = omega arith in ap (lookup bs ss a i) e
+  one-decides zero i m l l′ f g = absurd (omega arith)
+  one-decides (suc n) i m l l′ f g =
+      ⊎-elim
+      (λ e.
+      ap (pick (test i) (At i)) (none-holds n (suc i) (λ k h h′. g k (omega arith) (omega arith)))
+      ∙ ap (λ (k : ℕ). pick (test k) (At k) Nothing) e)
+      (λ h.
+      ap (λ (b : Bool). pick b (At i) (lookup bs ss a (suc i) n)) (f i h)
+      ∙ one-decides n (suc i) m (omega arith) (omega arith) f (λ k h′ h″. g k h′ (omega arith)))
+      (eq-or-lt-of-le l)
 
   -- ---- what is found is one of them
   pub lookup-low : (n i k : ℕ) → lookup bs ss a i n ≡ At k → k < i + n

@@ -1,33 +1,65 @@
 // The search for the region that holds an address.
 ghost use mathlib.Core.Path.{_≡_};
-ghost use Prim.Native.Nat.{_≤_};
-ghost use lib.ListN.{length};
+ghost use Prim.Native.Nat.{_≤_, _<_};
+ghost use lib.Dec.{leb};
+ghost use lib.ListN.{length, getD};
+ghost use Rattle.access.specs.Patterns.{pick};
 ghost use Rattle.regions.specs.Search.{InOrder, coveredBy, lookup};
+use itron::limit::MAX_REGIONS;
 
 // The index of a region, if there is one.
-pub(crate) enum Found {
+pub enum Found {
     At(usize),
     Nothing,
 }
 
-// Whether an area holds an address. The sum is made in 64 bits, since an end may be 2^32.
+// Each round of the search looks at one region. All but the last halve the regions that are left, the last looks at the one left.
+const ROUNDS: u32 = 7;
+
+// Whether an area holds an address. No sum is made, since an end may be 2^32.
 pub(crate) fn covers(start: u32, size: u32, address: u32) -> bool
     ensures { λ r. ⌜ r ≡ coveredBy start size address ⌝ }
 {
-    (start <= address) & ((address as u64) < start as u64 + size as u64)
+    if address < start {
+        return false;
+    }
+    address - start < size
 }
 
-// The first of `count` regions that holds an address. Their order is asked for so that another search may stand here.
-pub(crate) fn find<'a>(bases: &'a [u32], sizes: &'a [u32], count: usize, address: u32) -> Found
+// The later of two regions if it starts at or below an address, else the earlier.
+pub(crate) fn later<'a>(bases: &'a [u32], earlier: usize, later: usize, address: u32) -> usize
+    requires { ⌜ later < length (now bases) ⌝ }
+    ensures { λ r. ⌜ r ≡ pick (leb (getD (now (bases .entry)) later 0) address) later earlier ⌝ }
+{
+    if bases[later] <= address {
+        return later;
+    }
+    earlier
+}
+
+// The first of `count` regions that holds an address. They are in order, so no other can than the last that starts at or below it.
+// Before a round twice `half` regions are left, or all where those are fewer; which it is depends on the count alone.
+pub fn find<'a>(bases: &'a [u32], sizes: &'a [u32], count: usize, address: u32) -> Found
     requires { ⌜ (count ≤ length (now bases)) × (count ≤ length (now sizes)) × InOrder (now bases) (now sizes) count ⌝ }
     ensures { λ r. ⌜ r ≡ lookup (now (bases .entry)) (now (sizes .entry)) address 0 count ⌝ }
 {
-    let mut i: usize = 0;
-    while i < count {
-        if covers(bases[i], sizes[i], address) {
-            return Found::At(i);
+    if count == 0 {
+        return Found::Nothing;
+    }
+    let mut first: usize = 0;
+    let mut half = MAX_REGIONS / 2;
+    let mut round: u32 = 1;
+    while round < ROUNDS {
+        if 2 * half <= count {
+            first = later(bases, first, first + half, address);
+        } else if half < count {
+            first = later(bases, first, count - half, address);
         }
-        i += 1;
+        half /= 2;
+        round += 1;
+    }
+    if covers(bases[first], sizes[first], address) {
+        return Found::At(first);
     }
     Found::Nothing
 }

@@ -1,15 +1,11 @@
 // Pairs of calls that leave the table as it was, so that every round does the same work. Each operation is called at one place, so
 // that the compiler can put it into the loop.
-use crate::table::REGION_SIZE;
 use crate::table::all_regions;
 use bench_table::closed;
 use itron::code::E_OK;
-use itron::limit::MAX_REGIONS;
 use model::Outcome;
 use regions::flag::READ;
 use std::num::wrapping_add_u32;
-
-const REGIONS: u32 = MAX_REGIONS as u32;
 
 // One more if a call answered E_OK.
 fn counted(good: u32, outcome: Outcome) -> u32 {
@@ -60,18 +56,22 @@ pub extern "C" fn timing_send_receive(pairs: u32) -> u32 {
     sum
 }
 
-// Domain 1 asks to read an area of a size from the start of each region in turn; the number of verdicts E_OK.
+// Domain 1 asks to read an area of a size from each of these addresses, in so many rounds; the number of verdicts E_OK.
 #[no_mangle]
-pub extern "C" fn timing_verdict(count: u32, size: u32) -> u32 {
+pub extern "C" fn timing_verdict(rounds: u32, bases: &[u32], size: u32) -> u32 {
     let s = all_regions();
+    let count = bases.len();
     let mut good: u32 = 0;
-    let mut i: u32 = 0;
-    while i < count {
-        let base = i % REGIONS * REGION_SIZE;
-        if s.prb_mem(1, base, size, READ) == E_OK {
-            good = wrapping_add_u32(good, 1);
+    let mut round: u32 = 0;
+    while round < rounds {
+        let mut i: usize = 0;
+        while i < count {
+            if s.prb_mem(1, bases[i], size, READ) == E_OK {
+                good = wrapping_add_u32(good, 1);
+            }
+            i += 1;
         }
-        i += 1;
+        round += 1;
     }
     good
 }

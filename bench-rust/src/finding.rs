@@ -1,0 +1,118 @@
+//! Finding the region that holds a base: ours beside a walk from the first region, and the verdicts on the same bases.
+
+use crate::compare::Random;
+use crate::plain::{Kernel, MAX_REGIONS};
+use crate::plain_runs::{REGIONS, REGION_SIZE};
+use crate::{by_turns, line, ours, plain_runs};
+use std::hint::black_box;
+
+const BASES: usize = 1_000_000;
+const SEED: u64 = 0x5eed_0014;
+/// An area of one byte is within the region of its base.
+const ONE_BYTE: u32 = 1;
+const ADDRESSES: u64 = 1 << 32;
+
+/// Where regions lie. They are few enough and in order, which our search asks for and cannot check.
+pub struct Places {
+    bases: Vec<u32>,
+    sizes: Vec<u32>,
+}
+
+impl Places {
+    fn new(bases: Vec<u32>, sizes: Vec<u32>) -> Places {
+        let end = |k: usize| u64::from(bases[k]) + u64::from(sizes[k]);
+        assert!(bases.len() <= MAX_REGIONS && bases.len() == sizes.len());
+        assert!((1..bases.len()).all(|k| end(k - 1) <= u64::from(bases[k])));
+        Places { bases, sizes }
+    }
+
+    /// Up to an end, from the last region down; some touch the next, some do not.
+    fn random(random: &mut Random, count: usize, end: u64) -> Places {
+        let (mut bases, mut sizes, mut next) = (vec![0; count], vec![0; count], end);
+        for k in (0..count).rev() {
+            let gap = if random.one_in(2) { 0 } else { random.below(3) };
+            let size = 1 + random.below(4);
+            next -= (gap + size) as u64;
+            (bases[k], sizes[k]) = (next as u32, size as u32);
+        }
+        Places::new(bases, sizes)
+    }
+
+    pub fn bases(&self) -> &[u32] {
+        &self.bases
+    }
+
+    pub fn sizes(&self) -> &[u32] {
+        &self.sizes
+    }
+
+    /// What an ordinary kernel does; the number of regions where none holds the address.
+    fn walk(&self, address: u32) -> usize {
+        let holds = |(&base, &size): (&u32, &u32)| address >= base && address - base < size;
+        self.bases.iter().zip(&self.sizes).position(holds).unwrap_or(self.bases.len())
+    }
+}
+
+/// Every number of regions, at both ends of the addresses, and every address about them.
+fn same_regions() -> u32 {
+    let mut random = Random::new(SEED);
+    let mut found = 0;
+    for count in 0..=MAX_REGIONS {
+        for end in [8 * count as u64, ADDRESSES] {
+            let places = Places::random(&mut random, count, end);
+            for address in (end.saturating_sub(8 * count as u64 + 2)..ADDRESSES.min(end + 2)).map(|a| a as u32) {
+                assert_eq!(ours::find(&places, address), places.walk(address), "{address:#x} of {count}");
+                found += 1;
+            }
+        }
+    }
+    found
+}
+
+/// The sum of what is found, over all bases in so many passes.
+fn total(bases: &[u32], passes: u32, find: impl Fn(u32) -> usize) -> u32 {
+    let found = |sum: u32, &base: &u32| sum.wrapping_add(find(base) as u32);
+    (0..passes).fold(0, |sum, _| black_box(bases).iter().fold(sum, found))
+}
+
+fn random_bases(from: u32, until: u32) -> Vec<u32> {
+    let mut random = Random::new(SEED);
+    (0..BASES).map(|_| from + random.below((until - from) as usize) as u32).collect()
+}
+
+/// One pass over the bases is a run.
+fn timed(name: &str, ours: impl Fn(u32) -> u32, plain: impl Fn(u32) -> u32) {
+    assert_eq!(ours(1), plain(1), "{name}");
+    let [ours, plain] = by_turns(ours, plain, [1; 2]).map(|runs| runs.map(|pass| pass / BASES as f64));
+    let numbers = [ours[0], ours[1], plain[0], plain[1], plain[0] / ours[0], plain[1] / ours[1]];
+    line(name, numbers.map(|number| format!("{number:.2}")));
+}
+
+pub fn finding() {
+    println!("\nBoth find the same region of up to {MAX_REGIONS} for {} addresses.", same_regions());
+    println!("Times in ns per base, {BASES} bases at random, {REGIONS} regions; plain walks from the first.");
+    line("", ["ours", "ours", "plain", "plain", "plain /", "plain /"].map(String::from));
+    line("", ["min", "median", "min", "median", "ours, min", "median"].map(String::from));
+    let places = Places::new(plain_runs::starts(), vec![REGION_SIZE; MAX_REGIONS]);
+    let mut kernel = Kernel::EMPTY;
+    plain_runs::all_regions(&mut kernel);
+    let kernel = black_box(&kernel);
+    let end = REGIONS * REGION_SIZE;
+    for (name, from) in [("last region", end - REGION_SIZE), ("all regions", 0)] {
+        let bases = random_bases(from, end);
+        for &base in &bases {
+            let found = ours::find(&places, base);
+            assert_eq!((found, Some(found)), (places.walk(base), kernel.region_of(base)), "{base:#x}");
+        }
+        let ours = |passes| total(&bases, passes, |base| ours::find(&places, base));
+        let arrays = |passes| total(&bases, passes, |base| places.walk(base));
+        let records = |passes| total(&bases, passes, |base| kernel.region_of(base).unwrap_or(MAX_REGIONS));
+        timed(&format!("{name}, the same arrays"), ours, arrays);
+        timed(&format!("{name}, ordinary kernel"), ours, records);
+        timed(
+            &format!("{name}, verdict"),
+            |passes| ours::verdict(passes, &bases, ONE_BYTE),
+            |passes| plain_runs::verdict(passes, &bases, ONE_BYTE),
+        );
+    }
+}
