@@ -11,6 +11,10 @@ const SEED: u64 = 0x5eed_0014;
 /// An area of one byte is within the region of its base.
 const ONE_BYTE: u32 = 1;
 const ADDRESSES: u64 = 1 << 32;
+/// Small regions and gaps, so that every address about them can be tried.
+const MAX_GAP: usize = 2;
+const MAX_SIZE: usize = 4;
+const MAX_ROOM: u64 = (MAX_GAP + MAX_SIZE) as u64;
 
 /// Where regions lie. They are few enough and in order, which our search asks for and cannot check.
 pub struct Places {
@@ -30,8 +34,8 @@ impl Places {
     fn random(random: &mut Random, count: usize, end: u64) -> Places {
         let (mut bases, mut sizes, mut next) = (vec![0; count], vec![0; count], end);
         for k in (0..count).rev() {
-            let gap = if random.one_in(2) { 0 } else { random.below(3) };
-            let size = 1 + random.below(4);
+            let gap = if random.one_in(2) { 0 } else { random.below(MAX_GAP + 1) };
+            let size = 1 + random.below(MAX_SIZE);
             next -= (gap + size) as u64;
             (bases[k], sizes[k]) = (next as u32, size as u32);
         }
@@ -58,9 +62,11 @@ fn same_regions() -> u32 {
     let mut random = Random::new(SEED);
     let mut found = 0;
     for count in 0..=MAX_REGIONS {
-        for end in [8 * count as u64, ADDRESSES] {
+        let room = MAX_ROOM * count as u64;
+        for end in [room, ADDRESSES] {
             let places = Places::random(&mut random, count, end);
-            for address in (end.saturating_sub(8 * count as u64 + 2)..ADDRESSES.min(end + 2)).map(|a| a as u32) {
+            for address in end - room..ADDRESSES.min(end + MAX_ROOM) {
+                let address = address as u32;
                 assert_eq!(ours::find(&places, address), places.walk(address), "{address:#x} of {count}");
                 found += 1;
             }
