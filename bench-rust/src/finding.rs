@@ -1,7 +1,7 @@
 //! Finding the region that holds a base: ours beside a walk from the first region, and the verdicts on the same bases.
 
 use crate::compare::Random;
-use crate::plain::{Kernel, MAX_REGIONS};
+use crate::plain::{Kernel, ADDRESSES, MAX_REGIONS};
 use crate::plain_runs::{REGIONS, REGION_SIZE};
 use crate::{by_turns, line, ours, plain_runs};
 use std::hint::black_box;
@@ -10,13 +10,12 @@ const BASES: usize = 1_000_000;
 const SEED: u64 = 0x5eed_0014;
 /// An area of one byte is within the region of its base.
 const ONE_BYTE: u32 = 1;
-const ADDRESSES: u64 = 1 << 32;
 /// Small regions and gaps, so that every address about them can be tried.
 const MAX_GAP: usize = 2;
 const MAX_SIZE: usize = 4;
 const MAX_ROOM: u64 = (MAX_GAP + MAX_SIZE) as u64;
 
-/// Where regions lie. They are few enough and in order, which our search asks for and cannot check.
+/// Where regions lie: few enough, in order, each with a size, which our search asks for and does not check.
 pub struct Places {
     bases: Vec<u32>,
     sizes: Vec<u32>,
@@ -60,7 +59,7 @@ impl Places {
 /// Every number of regions, at both ends of the addresses, and every address about them.
 fn same_regions() -> u32 {
     let mut random = Random::new(SEED);
-    let mut found = 0;
+    let mut tried = 0;
     for count in 0..=MAX_REGIONS {
         let room = MAX_ROOM * count as u64;
         for end in [room, ADDRESSES] {
@@ -68,17 +67,17 @@ fn same_regions() -> u32 {
             for address in end - room..ADDRESSES.min(end + MAX_ROOM) {
                 let address = address as u32;
                 assert_eq!(ours::find(&places, address), places.walk(address), "{address:#x} of {count}");
-                found += 1;
+                tried += 1;
             }
         }
     }
-    found
+    tried
 }
 
 /// The sum of what is found, over all bases in so many passes.
 fn total(bases: &[u32], passes: u32, find: impl Fn(u32) -> usize) -> u32 {
-    let found = |sum: u32, &base: &u32| sum.wrapping_add(find(base) as u32);
-    (0..passes).fold(0, |sum, _| black_box(bases).iter().fold(sum, found))
+    let added = |sum: u32, &base: &u32| sum.wrapping_add(find(base) as u32);
+    (0..passes).fold(0, |sum, _| black_box(bases).iter().fold(sum, added))
 }
 
 fn random_bases(from: u32, until: u32) -> Vec<u32> {

@@ -18,7 +18,7 @@ mod archive {
     }
 }
 
-// Each function below takes any number and keeps nothing, and what it is lent is borrowed for the call, so its call is safe.
+// Each function below takes any number but `find`, keeps nothing, and is lent what is borrowed for the call, so its call is safe.
 
 pub fn signal_poll(pairs: u32) -> u32 {
     unsafe { archive::timing_signal_poll(pairs) }
@@ -32,7 +32,7 @@ pub fn verdict(rounds: u32, bases: &[u32], size: u32) -> u32 {
     unsafe { archive::timing_verdict(rounds, bases.as_ptr(), bases.len(), size) }
 }
 
-/// The search asks for regions in order, as `Places` are.
+/// The search asks for at most 64 regions in order, each with a size, as `Places` are.
 pub fn find(places: &Places, address: u32) -> usize {
     let (bases, sizes) = (places.bases(), places.sizes());
     unsafe { archive::finding_find(bases.as_ptr(), bases.len(), sizes.as_ptr(), sizes.len(), address) }

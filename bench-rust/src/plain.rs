@@ -41,7 +41,7 @@ pub const TPM_EXEC: u32 = 4;
 const TPM_ALL: u32 = TPM_WRITE | TPM_READ | TPM_EXEC;
 
 /// The first address beyond memory.
-const ADDRESSES: u64 = 1 << 32;
+pub const ADDRESSES: u64 = 1 << 32;
 
 /// First hit wins: each check is left by `?`.
 fn ensure(good: bool, code: Er) -> Check {

@@ -1,6 +1,8 @@
 //! The archive's functions, done by the ordinary kernel: same tables, same loops, same results.
 
-use crate::plain::{Check, Done, Er, Kernel, Referred, Vector, E_OK, TA_EXEC, TA_RO, TDOM_KERNEL, TPM_READ};
+use crate::plain::{
+    Check, Done, Er, Kernel, Referred, Vector, E_OK, MAX_REGIONS, TA_EXEC, TA_RO, TDOM_KERNEL, TPM_READ,
+};
 use std::hint::black_box;
 
 /// The functions' numbers in a list of calls, in document 01's order of the calls.
@@ -83,7 +85,7 @@ pub fn listed(pairs: u32) -> u32 {
 }
 
 /// As many regions as there may be, each touching the next and equal to it.
-pub const REGIONS: u32 = 64;
+pub const REGIONS: u32 = MAX_REGIONS as u32;
 pub const REGION_SIZE: u32 = 4096;
 
 pub fn starts() -> Vec<u32> {

@@ -7,7 +7,7 @@ ghost use Rattle.finding.specs.Index.{indexOf};
 use regions::search::Found;
 use regions::search::find;
 
-// The index of the region that holds an address, the number of regions where there is none. That they are in order is the host's promise.
+// The index of the region that holds an address, the number of regions where there is none. That they are at most 64, in order, each with a size, is the host's promise.
 #[no_mangle]
 pub extern "C" fn finding_find<'a>(bases: &'a [u32], sizes: &'a [u32], address: u32) -> usize
     requires { ⌜ (length (now bases) ≤ length (now sizes)) × InOrder (now bases) (now sizes) (length (now bases)) ⌝ }

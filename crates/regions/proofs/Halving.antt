@@ -91,7 +91,7 @@ module _ {bs ss : List ℕ} {n a first half : ℕ} (v : Left bs ss n a first (ha
         let e = v .all (omega arith) in
         looked bs ss n a o first half (n - half) v s (omega arith) (omega arith) (omega arith) (λ k l l′. absurd (omega arith))
 
--- ---- each round looks at one region
+-- ---- the rounds, each of which looks at one region at most
 abbrev pub rounds : ℕ
 rounds = 7
 

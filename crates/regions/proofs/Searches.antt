@@ -1,4 +1,4 @@
--- Laws of `lookup`: it is decided by one region where no other can hold the address, and it finds the region from which the model's `fromHolder` goes on. Assumes nothing.
+-- Laws of `coveredBy` and `lookup`: a search is decided by one region where no other can hold the address, and it finds the region from which the model's `fromHolder` goes on. Assumes nothing.
 use Prim.Native.Nat.{ℕ, zero, suc, _+_, _-_, _≤_, _<_}
 use native.Mathlib.Omega.{arith}
 use native.Mathlib.Nat.{eq-or-lt-of-le}
@@ -24,7 +24,7 @@ use Rattle.regions.specs.Search.{coveredBy, lookup, foundFrom}
 use Rattle.regions.proofs.search.Found.{the-type as found-type}
 use Rattle.regions.proofs.Cells.{count-of, base-at, size-at}
 
--- ---- an area that starts past an address, or ends before it, does not hold it; one that starts no later does if the distance is less than its size
+-- ---- an area that starts past an address, or ends before it, does not hold it; one that starts no later does exactly if the distance is less than its size
 pub starts-past : (start size a : ℕ) → a < start → coveredBy start size a ≡ false
 starts-past start size a h = simp (lt-leb start a h)
 

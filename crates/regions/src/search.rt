@@ -13,7 +13,7 @@ pub enum Found {
     Nothing,
 }
 
-// Each round of the search looks at one region. All but the last halve the regions that are left, the last looks at the one left.
+// A round of the search looks at one region at most. All but the last halve what is left, the last looks at the one region left.
 const ROUNDS: u32 = 7;
 
 // Whether an area holds an address. No sum is made, since an end may be 2^32.
@@ -26,19 +26,19 @@ pub(crate) fn covers(start: u32, size: u32, address: u32) -> bool
     address - start < size
 }
 
-// The later of two regions if it starts at or below an address, else the earlier.
-pub(crate) fn later<'a>(bases: &'a [u32], earlier: usize, later: usize, address: u32) -> usize
-    requires { ⌜ later < length (now bases) ⌝ }
-    ensures { λ r. ⌜ r ≡ pick (leb (getD (now (bases .entry)) later 0) address) later earlier ⌝ }
+// Where the half that may hold an address begins: at the region in the middle if that starts at or below the address, else at the first.
+pub(crate) fn half_from<'a>(bases: &'a [u32], first: usize, middle: usize, address: u32) -> usize
+    requires { ⌜ middle < length (now bases) ⌝ }
+    ensures { λ r. ⌜ r ≡ pick (leb (getD (now (bases .entry)) middle 0) address) middle first ⌝ }
 {
-    if bases[later] <= address {
-        return later;
+    if bases[middle] <= address {
+        return middle;
     }
-    earlier
+    first
 }
 
 // The first of `count` regions that holds an address. They are in order, so no other can than the last that starts at or below it.
-// Before a round twice `half` regions are left, or all where those are fewer; which it is depends on the count alone.
+// Before a round of the loop twice `half` regions are left, or all where those are fewer; which it is depends on the count alone.
 pub fn find<'a>(bases: &'a [u32], sizes: &'a [u32], count: usize, address: u32) -> Found
     requires { ⌜ (count ≤ length (now bases)) × (count ≤ length (now sizes)) × InOrder (now bases) (now sizes) count ⌝ }
     ensures { λ r. ⌜ r ≡ lookup (now (bases .entry)) (now (sizes .entry)) address 0 count ⌝ }
@@ -51,9 +51,9 @@ pub fn find<'a>(bases: &'a [u32], sizes: &'a [u32], count: usize, address: u32) 
     let mut round: u32 = 1;
     while round < ROUNDS {
         if 2 * half <= count {
-            first = later(bases, first, first + half, address);
+            first = half_from(bases, first, first + half, address);
         } else if half < count {
-            first = later(bases, first, count - half, address);
+            first = half_from(bases, first, count - half, address);
         }
         half /= 2;
         round += 1;

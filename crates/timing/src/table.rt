@@ -6,7 +6,7 @@ use itron::limit::MAX_REGIONS;
 use kernel::state::State;
 use regions::entry::RegionEntry;
 
-pub const REGION_SIZE: u32 = 4096;
+const REGION_SIZE: u32 = 4096;
 
 // As many regions as there may be, one behind the other from address 0.
 pub fn all_regions() -> State

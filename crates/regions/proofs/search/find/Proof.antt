@@ -32,22 +32,22 @@ loop-holds c =
 mul-if2 : tie.Need-mul-if2 Inv-loop μ-loop
 mul-if2 c = let f = c .before .loop .inv .few in omega arith
 
-add-later : tie.Need-add-later Inv-loop μ-loop
-add-later c = let p = c .before .before in let f = p .loop .inv .few in let l = p .loop .inv .left .inside in search needs
+add-half-from : tie.Need-add-half-from Inv-loop μ-loop
+add-half-from c = let p = c .before .before in let f = p .loop .inv .few in let l = p .loop .inv .left .inside in search needs
 
-later-requires : tie.Need-later-requires Inv-loop μ-loop
-later-requires c κs =
+half-from-requires : tie.Need-half-from-requires Inv-loop μ-loop
+half-from-requires c κs =
     let p = c .before .before in
     let v = twice-left (p .loop .inv) (omega (arith, c .before .loop-test .taken)) in
     let w = v .within (omega arith) in
     let n = p .before .before .before .before .pre .0 in
     omega arith
 
-sub-later : tie.Need-sub-later Inv-loop μ-loop
-sub-later c = search needs
+sub-half-from : tie.Need-sub-half-from Inv-loop μ-loop
+sub-half-from c = search needs
 
-later-requires-2 : tie.Need-later-requires-2 Inv-loop μ-loop
-later-requires-2 c κs =
+half-from-requires-2 : tie.Need-half-from-requires-2 Inv-loop μ-loop
+half-from-requires-2 c κs =
     let p = c .before .before .before in
     let o = some-left (p .loop .inv) (omega (arith, c .before .before .loop-test .taken)) in
     let n = p .before .before .before .before .pre .0 in
@@ -122,10 +122,10 @@ find-spec =
     returns
     loop-holds
     mul-if2
-    add-later
-    later-requires
-    sub-later
-    later-requires-2
+    add-half-from
+    half-from-requires
+    sub-half-from
+    half-from-requires-2
     add-round
     loop-less
     loop-again
