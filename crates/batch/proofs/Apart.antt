@@ -75,7 +75,7 @@ told-apart a b e =
     record {
       code = c;
       reply = λ i. record { outcome = outcomeOf (c i); word = w 1 i; released = record { task = w 2 i; word = w 3 i } };
-      info = λ i. record { waiter = w 4 i; receiver = w 5 i; count = w 6 i; vector = record { normal1 = w 7 i; normal2 = w 8 i; management = w 9 i; reference = w 10 i } };
+      info = λ i. record { first = w 4 i; second = w 5 i; amount = w 6 i; vector = record { normal1 = w 7 i; normal2 = w 8 i; management = w 9 i; reference = w 10 i } };
     }
 
 pub no-answer : (a : Answer) → encoded a ≡ noCall → ⊥

@@ -9,20 +9,22 @@ use mir.Syntax.{w32}
 use mir.Val.{toZ, ofZ}
 use Rattle.access.specs.Patterns.{pick}
 use Rattle.model.specs.Answers.{Answer, outcomeOf, releasedOf}
-use Rattle.model.specs.Calls.{Call, call, signal, acquire, send, receive, refer, setVector}
+use Rattle.model.specs.Acts.{own, refer, setVector}
+use Rattle.model.specs.declared.sem.SemaphoreCall.the-variants.{Signal as signal, Acquire as acquire}
+use Rattle.model.specs.declared.dtq.QueueCall.the-variants.{Send as send, Receive as receive}
+use Rattle.model.specs.Calls.{Call, call, onSemaphore, onQueue}
 use Rattle.model.specs.History.{History}
 use Rattle.model.specs.declared.Outcome.{Outcome}
 use Rattle.model.specs.declared.Outcome.the-variants.{Code, Waiting}
-use Rattle.model.specs.declared.Kind.the-variants.{Semaphore, Queue}
 use Rattle.model.specs.declared.Patience.the-variants.{Polling, Forever}
-use Rattle.batch.specs.declared.request.Request.{Request}
+use Rattle.batch.specs.declared.numbers.Numbers.{Numbers}
 
 -- ---- a call is eight words: function, caller, object, word, four patterns; signed numbers are in two's complement
 abbrev pub callWords : ℕ
 callWords = 8
 
-abbrev pub requestAt : List ℕ → ℕ → Request
-requestAt ws at =
+abbrev pub numbersAt : List ℕ → ℕ → Numbers
+numbersAt ws at =
     record {
       function = getD ws at 0;
       caller = toZ w32 (getD ws (at + 1) 0);
@@ -31,20 +33,20 @@ requestAt ws at =
       vector = record { normal1 = getD ws (at + 4) 0; normal2 = getD ws (at + 5) 0; management = getD ws (at + 6) 0; reference = getD ws (at + 7) 0 };
     }
 
--- what a request can mean, in document 01's order of the calls
-abbrev pub meanings : Request → List Call
+-- what numbers can mean, in document 01's order of the calls
+abbrev pub meanings : Numbers → List Call
 meanings q =
-    call (q .caller) (signal (q .object))
-    ∷ call (q .caller) (acquire Polling (q .object))
-    ∷ call (q .caller) (acquire Forever (q .object))
-    ∷ call (q .caller) (refer Semaphore (q .object))
-    ∷ call (q .caller) (setVector Semaphore (q .object) (q .vector))
-    ∷ call (q .caller) (send Polling (q .object) (q .word))
-    ∷ call (q .caller) (send Forever (q .object) (q .word))
-    ∷ call (q .caller) (receive Polling (q .object))
-    ∷ call (q .caller) (receive Forever (q .object))
-    ∷ call (q .caller) (refer Queue (q .object))
-    ∷ call (q .caller) (setVector Queue (q .object) (q .vector))
+    call (q .caller) (onSemaphore (q .object) (own signal))
+    ∷ call (q .caller) (onSemaphore (q .object) (own (acquire Polling)))
+    ∷ call (q .caller) (onSemaphore (q .object) (own (acquire Forever)))
+    ∷ call (q .caller) (onSemaphore (q .object) refer)
+    ∷ call (q .caller) (onSemaphore (q .object) (setVector (q .vector)))
+    ∷ call (q .caller) (onQueue (q .object) (own (send Polling (q .word))))
+    ∷ call (q .caller) (onQueue (q .object) (own (send Forever (q .word))))
+    ∷ call (q .caller) (onQueue (q .object) (own (receive Polling)))
+    ∷ call (q .caller) (onQueue (q .object) (own (receive Forever)))
+    ∷ call (q .caller) (onQueue (q .object) refer)
+    ∷ call (q .caller) (onQueue (q .object) (setVector (q .vector)))
     ∷ []
 
 -- the n-th of a list, counted from 1
@@ -55,12 +57,12 @@ nth (x ∷ l) (suc zero) = some x
 nth (x ∷ l) (suc (suc n)) = nth l (suc n)
 
 -- the function is the meaning's number; any other is no call
-abbrev pub itemOf : Request → Option Call
+abbrev pub itemOf : Numbers → Option Call
 itemOf q = nth (meanings q) (q .function)
 
 -- the k-th item of a slice, counted from 0: its words are the eight from k * 8 on; fewer than eight are no call
 abbrev pub itemAt : List ℕ → ℕ → Option Call
-itemAt ws k = pick (leb (k * callWords + callWords) (length ws)) (itemOf (requestAt ws (k * callWords))) none
+itemAt ws k = pick (leb (k * callWords + callWords) (length ws)) (itemOf (numbersAt ws (k * callWords))) none
 
 -- the first n items, THE NEWEST FIRST as in a history
 abbrev pub itemsIn : List ℕ → ℕ → List (Option Call)
@@ -73,7 +75,7 @@ callsIn [] = []
 callsIn (none ∷ l) = callsIn l
 callsIn (some c ∷ l) = c ∷ callsIn l
 
--- ---- an answer is eleven words: code, word, released task and its word, first waiter, first receiver, count, four patterns
+-- ---- an answer is eleven words: code, word, released task and its word; what a refer tells: first, second, amount, four patterns
 abbrev pub answerWords : ℕ
 answerWords = 11
 
@@ -88,9 +90,9 @@ encoded a =
     ∷ a .word
     ∷ releasedOf (a .released) .task
     ∷ releasedOf (a .released) .word
-    ∷ a .info .waiter
-    ∷ a .info .receiver
-    ∷ a .info .count
+    ∷ a .info .first
+    ∷ a .info .second
+    ∷ a .info .amount
     ∷ a .info .vector .normal1
     ∷ a .info .vector .normal2
     ∷ a .info .vector .management

@@ -3,28 +3,32 @@ use Prim.Native.Nat.{ℕ}
 use mathlib.Core.Path.{_≡_}
 use mathlib.Core.List.{List, [], _∷_}
 use mathlib.Core.Option.{Option, none, some}
-use mir.Syntax.{w32}
-use mir.Val.{ofZ}
+use lib.IntN.{ℤ}
 use Rattle.model.specs.State as Model
-use Rattle.model.specs.Calls.{Call, step}
+use Rattle.model.specs.Calls.{Call, call, opOf, step}
 use Rattle.kernel.specs.declared.state.State.{State}
 use Rattle.kernel.specs.declared.state.Answer.{Answer}
-use Rattle.kernel.specs.declared.sem.SemaphoreReport.{SemaphoreReport}
-use Rattle.kernel.specs.declared.dtq.QueueReport.{QueueReport}
 use Rattle.kernel.specs.View.{viewOf}
 use Rattle.kernel.specs.Valid.{Valid}
 use Rattle.batch.specs.declared.answer.Made.{Made}
+use Rattle.batch.specs.declared.asked.Asked.{Asked}
+use Rattle.batch.specs.declared.asked.Asked.the-variants as Asks
 use Rattle.batch.specs.Encoding.{outcomeWord, encoded, noCall}
 
--- the words of the answers that the operations give
+-- the words of an answer that an operation gives
 abbrev pub answerMade : Answer → Made
-answerMade a = record { words = outcomeWord (a .outcome) ∷ a .word ∷ a .released .task ∷ a .released .word ∷ 0 ∷ 0 ∷ 0 ∷ 0 ∷ 0 ∷ 0 ∷ 0 ∷ []; state = a .state }
+answerMade a =
+    record {
+      words =
+          outcomeWord (a .outcome) ∷ a .word ∷ a .released .task ∷ a .released .word ∷ a .info .first ∷ a .info .second ∷ a .info .amount ∷ a .info .vector .normal1 ∷ a .info .vector .normal2
+          ∷ a .info .vector .management ∷ a .info .vector .reference ∷ [];
+      state = a .state;
+    }
 
-abbrev pub semaphoreMade : SemaphoreReport → Made
-semaphoreMade r = record { words = ofZ w32 (r .code) ∷ 0 ∷ 0 ∷ 0 ∷ r .waiter ∷ 0 ∷ r .count ∷ r .vector .normal1 ∷ r .vector .normal2 ∷ r .vector .management ∷ r .vector .reference ∷ []; state = r .state }
-
-abbrev pub queueMade : QueueReport → Made
-queueMade r = record { words = ofZ w32 (r .code) ∷ 0 ∷ 0 ∷ 0 ∷ r .sender ∷ r .receiver ∷ r .count ∷ r .vector .normal1 ∷ r .vector .normal2 ∷ r .vector .management ∷ r .vector .reference ∷ []; state = r .state }
+-- what a task is to make of what its numbers ask for
+abbrev pub meaningOf : ℤ → Asked → Option Call
+meaningOf t Asks.Nothing = none
+meaningOf t (Asks.Call q) = some (call t (opOf q))
 
 -- what an item answers in a state of the model, and the state after it
 abbrev pub answerTo : Model.State → Option Call → List ℕ

@@ -1,18 +1,16 @@
 // The words of an answer.
 ghost use mathlib.Core.Path.{_≡_};
 ghost use Prim.Native.Nat.{_≤_};
-ghost use Rattle.itron.specs.Limits.{maxTasks, maxWords};
+ghost use Rattle.itron.specs.Limits.{maxTasks};
 ghost use Rattle.batch.specs.Encoding.{outcomeWord, noCall};
-ghost use Rattle.batch.specs.Made.{answerMade, semaphoreMade, queueMade};
+ghost use Rattle.batch.specs.Made.{answerMade};
 use crate::word::unsigned;
-use kernel::dtq::QueueReport;
-use kernel::sem::SemaphoreReport;
 use kernel::state::Answer;
 use kernel::state::State;
 use model::Outcome;
 
-// Words of an answer: code, word, released task and its word; then what a refer tells: first waiter, first receiver, count and
-// the four patterns of the vector. What an answer does not have is 0.
+// Words of an answer: code, word, released task and its word; then what a refer tells: the first who waits, the first on the other side,
+// the amount and the four patterns of the vector. What an answer does not have is 0.
 pub const ANSWER_WORDS: usize = 11;
 
 // The word of an answer's code where the caller waits; no code has this number.
@@ -45,52 +43,24 @@ pub(crate) fn no_call() -> [u32; ANSWER_WORDS]
     words
 }
 
-// What a call answered that is no refer.
+// What a call answered.
 pub(crate) fn answered(answer: Answer) -> Made
-    requires { ⌜ answer .released .task ≤ maxTasks ⌝ }
+    requires { ⌜ (answer .released .task ≤ maxTasks) × (answer .info .first ≤ maxTasks) × (answer .info .second ≤ maxTasks) ⌝ }
     ensures { λ r. ⌜ r ≡ answerMade answer ⌝ }
 {
     let outcome = answer.outcome;
     let released = answer.released;
+    let info = answer.info;
+    let vector = info.vector;
     let state = answer.state;
     let mut words = [0; ANSWER_WORDS];
     words[0] = outcome_word(outcome);
     words[1] = answer.word;
     words[2] = released.task as u32;
     words[3] = released.word;
-    Made { words, state }
-}
-
-// What a refer to a semaphore answered.
-pub(crate) fn told_of_semaphore(report: SemaphoreReport) -> Made
-    requires { ⌜ report .waiter ≤ maxTasks ⌝ }
-    ensures { λ r. ⌜ r ≡ semaphoreMade report ⌝ }
-{
-    let vector = report.vector;
-    let state = report.state;
-    let mut words = [0; ANSWER_WORDS];
-    words[0] = unsigned(report.code);
-    words[4] = report.waiter as u32;
-    words[6] = report.count;
-    words[7] = vector.normal1;
-    words[8] = vector.normal2;
-    words[9] = vector.management;
-    words[10] = vector.reference;
-    Made { words, state }
-}
-
-// What a refer to a data queue answered.
-pub(crate) fn told_of_queue(report: QueueReport) -> Made
-    requires { ⌜ (report .sender ≤ maxTasks) × (report .receiver ≤ maxTasks) × (report .count ≤ maxWords) ⌝ }
-    ensures { λ r. ⌜ r ≡ queueMade report ⌝ }
-{
-    let vector = report.vector;
-    let state = report.state;
-    let mut words = [0; ANSWER_WORDS];
-    words[0] = unsigned(report.code);
-    words[4] = report.sender as u32;
-    words[5] = report.receiver as u32;
-    words[6] = report.count as u32;
+    words[4] = info.first as u32;
+    words[5] = info.second as u32;
+    words[6] = info.amount;
     words[7] = vector.normal1;
     words[8] = vector.normal2;
     words[9] = vector.management;

@@ -9,10 +9,10 @@ ghost use Rattle.batch.specs.Made.{Performs};
 ghost use Rattle.batch.specs.Runs.{Runs};
 use crate::answer::ANSWER_WORDS;
 use crate::answer::Made;
+use crate::numbers::CALL_WORDS;
+use crate::numbers::read;
 use crate::perform::perform;
 use crate::perform::refused;
-use crate::request::CALL_WORDS;
-use crate::request::read;
 use kernel::state::State;
 
 // How many were answered, and the state after them.

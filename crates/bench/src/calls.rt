@@ -66,10 +66,7 @@ pub fn ref_sem(s: State, task: i32, id: i32) -> State
     ensures { λ r. ⌜ Valid r ⌝ }
 {
     label(task, b" refers to semaphore ", id);
-    let report = s.ref_sem(task, id);
-    let vector = report.vector;
-    say_semaphore(report.code, report.waiter, report.count, vector);
-    report.state
+    say_semaphore(s.ref_sem(task, id))
 }
 
 pub fn sac_sem(s: State, task: i32, id: i32, vector: Vector) -> State

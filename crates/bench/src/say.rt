@@ -55,10 +55,16 @@ pub fn say_entered(entered: Entered) -> State
     entered.state
 }
 
-// The rest of a refer's line.
-pub fn say_semaphore(code: i32, waiter: usize, count: u32, vector: Vector) {
-    names::code(code);
-    named(b", first waiter ", waiter as u64);
-    named(b", count ", count as u64);
+// The rest of a refer's line: its reply is the code alone, and then comes what it tells.
+pub fn say_semaphore(answer: Answer) -> State
+    requires { ⌜ Valid (answer .state) ⌝ }
+    ensures { λ r. ⌜ Valid r ⌝ }
+{
+    let info = answer.info;
+    let vector = info.vector;
+    let state = say(answer);
+    named(b", first waiter ", info.first as u64);
+    named(b", count ", info.amount as u64);
     patterns(b", vector", vector);
+    state
 }

@@ -1,5 +1,5 @@
 // A list of calls, as the words that a run takes.
-use batch::request::CALL_WORDS;
+use batch::numbers::CALL_WORDS;
 
 pub const LIST_CALLS: usize = 16;
 

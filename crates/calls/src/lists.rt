@@ -2,17 +2,17 @@
 use crate::list::List;
 use crate::run::ANSWERS;
 use crate::run::show;
-use batch::request::POL_SEM;
-use batch::request::PRCV_DTQ;
-use batch::request::PSND_DTQ;
-use batch::request::RCV_DTQ;
-use batch::request::REF_DTQ;
-use batch::request::REF_SEM;
-use batch::request::SAC_DTQ;
-use batch::request::SAC_SEM;
-use batch::request::SIG_SEM;
-use batch::request::SND_DTQ;
-use batch::request::WAI_SEM;
+use batch::asked::POL_SEM;
+use batch::asked::PRCV_DTQ;
+use batch::asked::PSND_DTQ;
+use batch::asked::RCV_DTQ;
+use batch::asked::REF_DTQ;
+use batch::asked::REF_SEM;
+use batch::asked::SAC_DTQ;
+use batch::asked::SAC_SEM;
+use batch::asked::SIG_SEM;
+use batch::asked::SND_DTQ;
+use batch::asked::WAI_SEM;
 
 pub fn run_s() {
     let mut list = List::EMPTY;

@@ -4,7 +4,7 @@ use crate::list::LIST_CALLS;
 use crate::list::LIST_WORDS;
 use crate::list::List;
 use batch::answer::ANSWER_WORDS;
-use batch::request::CALL_WORDS;
+use batch::numbers::CALL_WORDS;
 use batch::word::signed;
 use host::host_run;
 use text::print;

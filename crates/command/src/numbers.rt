@@ -5,8 +5,9 @@ use crate::number::Unsigned;
 use crate::number::as_signed;
 use crate::number::as_unsigned;
 use crate::number::read_number;
-use crate::verb::PATTERNS;
+use crate::shape::PATTERNS;
 use crate::word::word;
+use access::vector::Choice;
 use access::vector::Vector;
 
 // The most unsigned numbers of a command: three of an entry and a vector.
@@ -21,7 +22,7 @@ pub struct Numbers {
 }
 
 impl Numbers {
-    fn none() -> Numbers {
+    pub fn none() -> Numbers {
         Numbers {
             good: true,
             first: 0,
@@ -90,12 +91,7 @@ impl Numbers {
     // The vector of the four unsigned numbers from k on.
     pub fn vector(self, k: usize) -> Vector {
         if MOST - PATTERNS < k {
-            return Vector {
-                normal1: 0,
-                normal2: 0,
-                management: 0,
-                reference: 0,
-            };
+            return Vector::KERNEL;
         }
         Vector {
             normal1: self.plain(k),
@@ -103,5 +99,13 @@ impl Numbers {
             management: self.plain(k + 2),
             reference: self.plain(k + 3),
         }
+    }
+
+    // An entry's vector, where four patterns stand after its other numbers.
+    pub fn choice(self, given: bool, after: usize) -> Choice {
+        if given {
+            return Choice::Given(self.vector(after));
+        }
+        Choice::Default
     }
 }

@@ -8,17 +8,17 @@ use crate::parse::parse;
 use crate::text::Text;
 
 // The echo is the first `count` bytes.
-pub struct Request {
+pub struct Asked {
     pub command: Command,
     pub echo: Text,
 }
 
 // What a line asks, given whether an LF ended it: a CR goes only before an LF.
-pub fn requested(line: Line, ended: bool) -> Request
+pub fn requested(line: Line, ended: bool) -> Asked
     ensures { λ r. ⌜ r .echo .count ≤ lineSize ⌝ }
 {
     if SIZE <= line.count {
-        return Request {
+        return Asked {
             command: Command::Bad,
             echo: Text::long(),
         };
@@ -29,13 +29,13 @@ pub fn requested(line: Line, ended: bool) -> Request
     of_text(Text::of(line))
 }
 
-fn of_text(echo: Text) -> Request
+fn of_text(echo: Text) -> Asked
     requires { ⌜ echo .count ≤ lineSize ⌝ }
     ensures { λ r. ⌜ r .echo .count ≤ lineSize ⌝ }
 {
     let bytes = echo.bytes;
     let count = echo.count;
-    Request {
+    Asked {
         command: parse(&bytes[..count]),
         echo,
     }

@@ -15,8 +15,7 @@ use Rattle.itron.specs.Codes.{eRsatr, ePar, eNomem, numberOf, okNumber}
 use Rattle.itron.specs.Limits.{maxQueues, maxWords}
 use Rattle.model.specs.State as Model
 use Rattle.model.specs.Answers.{refuseIf, resultOf}
-use Rattle.model.specs.Queues.{wordsUsed, attributeOk, numbersOk, memoryOk}
-use Rattle.model.specs.Table.{newQueue}
+use Rattle.model.specs.Queues.{wordsUsed, attributeOk, numbersOk, memoryOk, newQueue}
 use Rattle.model.specs.Conditions.{QueuesFit}
 use Rattle.dataqueue.specs.declared.state.Queue.{Queue}
 use Rattle.dataqueue.specs.declared.state.Queues.{Queues}

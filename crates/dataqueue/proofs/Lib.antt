@@ -3,4 +3,4 @@ pub mod Parts
 pub mod Back
 pub mod Links
 pub mod Entries
-pub mod Calls
+pub mod Effects

@@ -12,9 +12,10 @@ use Rattle.arrays.proofs.Pads.{pad-get, pad-set, pad-length}
 use Rattle.itron.specs.Limits.{maxQueues, maxWords}
 use Rattle.model.specs.State as Model
 use Rattle.model.specs.Lists.{at}
-use Rattle.model.specs.Queues.{queueIn, setBuffer, setVector}
+use Rattle.model.specs.Rooms.{setVectorOf}
+use Rattle.model.specs.Queues.{room, queueIn, setBuffer}
 use Rattle.model.specs.Conditions.{QueuesFit}
-use Rattle.model.proofs.Sound.{queues-put, buffer-fits}
+use Rattle.model.proofs.Fits.{queues-put, buffer-fits}
 use Rattle.dataqueue.specs.declared.state.Queue.{Queue}
 use Rattle.dataqueue.specs.declared.state.Queues.{Queues}
 use Rattle.dataqueue.specs.declared.state.QueueInfo.{QueueInfo}
@@ -93,7 +94,7 @@ module _ (qs : List Model.Queue) (k : ℕ) (h : k < length qs) where
       ∙ (λ i. withParts s k (withLen (recordOf q (start qs k)) (n i)) (closeUp (start qs k) (length (q .buffer)) (s .words)))
       ∙ queue-form (withBuffer q b) refl (closeUp (start qs k) (length (q .buffer)) (s .words)) (words-close f k (withBuffer q b) h (r, (refl, refl)))
 
-  vector-form : (v : Vector) → turned (queuesAs qs) k v ≡ queuesAs (setVector qs (suc k) v)
+  vector-form : (v : Vector) → turned (queuesAs qs) k v ≡ queuesAs (setVectorOf room qs (suc k) v)
   unfolding queuesAs
   vector-form v =
       let s = queuesAs qs in
@@ -149,7 +150,7 @@ module _ {q : Queues} (h : Held q) where
     pub pop-link : 0 < length (queueIn (queuesOf q) (suc k) .buffer) → popped q k ≡ queuesAs (setBuffer (queuesOf q) (suc k) (drop 1 (queueIn (queuesOf q) (suc k) .buffer)))
     pop-link r = ap (λ (x : Queues). popped x k) (h .form) ∙ pop-form (queuesOf q) k l (h .fit) r
 
-    pub vector-link : (v : Vector) → turned q k v ≡ queuesAs (setVector (queuesOf q) (suc k) v)
+    pub vector-link : (v : Vector) → turned q k v ≡ queuesAs (setVectorOf room (queuesOf q) (suc k) v)
     vector-link v = ap (λ (x : Queues). turned x k v) (h .form) ∙ vector-form (queuesOf q) k l v
 
   -- the record with a number

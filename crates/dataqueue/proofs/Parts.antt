@@ -12,7 +12,7 @@ use Rattle.model.specs.State as Model
 use Rattle.model.specs.Lists.{at, All}
 use Rattle.model.specs.Queues.{wordsUsed}
 use Rattle.model.specs.Conditions.{BufferFits, QueuesFit}
-use Rattle.model.proofs.Sound.{buffer-fits}
+use Rattle.model.proofs.Fits.{buffer-fits}
 use Rattle.dataqueue.specs.declared.state.Queue.{Queue}
 use Rattle.dataqueue.specs.declared.state.QueueInfo.{QueueInfo}
 use Rattle.dataqueue.specs.View.{queueSeen, infoOf}

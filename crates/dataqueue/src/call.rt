@@ -1,39 +1,37 @@
-// The calls on a data queue, once their checks are passed (document 01, "Calls on an open gateway").
+// What can be asked of a data queue, and what that does once its checks are passed (document 01, "Calls on an open gateway").
 ghost use mathlib.Core.Path.{_≡_};
 ghost use Prim.Native.Nat.{suc, _<_};
 ghost use lib.ListN.{length};
-ghost use Rattle.model.specs.Queues as Model;
+ghost use Rattle.model.specs.Acts.{operationOf};
+ghost use Rattle.model.specs.Answers as Model;
+ghost use Rattle.model.specs.Queues.{actOf, operation, does, onSend, onReceive, told};
 ghost use Rattle.tasks.specs.View.{domainsOf, waitsOf};
-ghost use Rattle.tasks.specs.Held.{Held as TasksHeld};
+ghost use Rattle.tasks.specs.Held as TasksHeld;
 ghost use Rattle.tasks.specs.Checks.{Passed};
 ghost use Rattle.dataqueue.specs.View.{queuesOf};
 ghost use Rattle.dataqueue.specs.Held.{Held};
-ghost use Rattle.dataqueue.specs.Effects.{refusedWith, sent, received, doneWith, endedWith, statusOf};
+ghost use Rattle.dataqueue.specs.Effects.{acted, effectAs, refusedWith, doneWith, endedWith};
 use crate::state::Queues;
-use access::vector::Vector;
+use access::vector::Operation;
 use itron::code::E_OK;
+use model::Info;
 use model::Patience;
 use model::Reply;
 use model::Side;
+use model::dtq::QueueCall;
+use model::dtq::QueueRequest;
 use tasks::check::Check;
 use tasks::state::Tasks;
 use tasks::task::Wait;
 use tasks::wait::Ended;
 use tasks::wait::First;
 
-// What a call gives.
+// What a call gives: the reply, what a refer tells, and the tasks and the queues after it.
 pub struct Effect {
     pub reply: Reply,
+    pub info: Info,
     pub tasks: Tasks,
     pub queues: Queues,
-}
-
-// What a refer tells; the numbers of the first who wait, 0 if nobody does.
-pub struct QueueStatus {
-    pub sender: usize,
-    pub receiver: usize,
-    pub count: usize,
-    pub vector: Vector,
 }
 
 // E_OK with a word, nobody released.
@@ -42,17 +40,19 @@ pub(crate) fn done(tasks: Tasks, queues: Queues, word: u32) -> Effect
 {
     Effect {
         reply: Reply::plain(E_OK, word),
+        info: Info::NONE,
         tasks,
         queues,
     }
 }
 
-// What the checks refuse: its code, with everything as it was.
+// A refusal: its code, with everything as it was.
 pub(crate) fn refused(tasks: Tasks, queues: Queues, code: i32) -> Effect
     ensures { λ r. ⌜ r ≡ refusedWith tasks queues code ⌝ }
 {
     Effect {
         reply: Reply::plain(code, 0),
+        info: Info::NONE,
         tasks,
         queues,
     }
@@ -66,77 +66,131 @@ pub(crate) fn ended(end: Ended, queues: Queues) -> Effect
     let tasks = end.tasks;
     Effect {
         reply,
+        info: Info::NONE,
         tasks,
         queues,
     }
 }
 
 // Both sends.
-pub fn send(tasks: Tasks, queues: Queues, check: Check, word: u32, patience: Patience) -> Effect
-    requires { ⌜ TasksHeld tasks × Held queues × Passed tasks (length (queuesOf queues)) check ⌝ }
-    ensures { λ r. ⌜ r ≡ sent tasks queues word patience check ⌝ }
+pub(crate) fn send(
+    tasks: Tasks,
+    queues: Queues,
+    task: usize,
+    object: usize,
+    patience: Patience,
+    word: u32,
+) -> Effect
+    requires { ⌜ TasksHeld.Held tasks × Held queues × TasksHeld.Free (domainsOf tasks) (waitsOf tasks) task × (object < length (queuesOf queues)) ⌝ }
+    ensures { λ r. ⌜ r ≡ effectAs (domainsOf tasks) (onSend (waitsOf tasks) (queuesOf queues) (suc task) (suc object) word patience) ⌝ }
 {
-    match check {
-        Check::Refused(code) => refused(tasks, queues, code),
-        Check::Admitted(task, object) => match tasks.first(Side::Receiving, object) {
-            First::Waiter(receiver, _) => ended(tasks.wake(receiver, 0, word), queues),
-            First::Nobody => {
-                if queues.has_room(object) {
-                    done(tasks, queues.push(object, word), 0)
-                } else {
-                    ended(
-                        tasks.or_wait(task, Wait::Sending(object as u8, word), patience),
-                        queues,
-                    )
-                }
-            },
+    match tasks.first(Side::Receiving, object) {
+        First::Waiter(receiver, _) => ended(tasks.wake(receiver, 0, word), queues),
+        First::Nobody => {
+            if queues.has_room(object) {
+                done(tasks, queues.push(object, word), 0)
+            } else {
+                ended(
+                    tasks.or_wait(task, Wait::Sending(object as u8, word), patience),
+                    queues,
+                )
+            }
         },
     }
 }
 
 // Both receives.
-pub fn receive(tasks: Tasks, queues: Queues, check: Check, patience: Patience) -> Effect
-    requires { ⌜ TasksHeld tasks × Held queues × Passed tasks (length (queuesOf queues)) check ⌝ }
-    ensures { λ r. ⌜ r ≡ received tasks queues patience check ⌝ }
+pub(crate) fn receive(
+    tasks: Tasks,
+    queues: Queues,
+    task: usize,
+    object: usize,
+    patience: Patience,
+) -> Effect
+    requires { ⌜ TasksHeld.Held tasks × Held queues × TasksHeld.Free (domainsOf tasks) (waitsOf tasks) task × (object < length (queuesOf queues)) ⌝ }
+    ensures { λ r. ⌜ r ≡ effectAs (domainsOf tasks) (onReceive (waitsOf tasks) (queuesOf queues) (suc task) (suc object) patience) ⌝ }
 {
-    match check {
-        Check::Refused(code) => refused(tasks, queues, code),
-        Check::Admitted(task, object) => {
-            let sender = tasks.first(Side::Sending, object);
-            if queues.buffered(object) == 0 {
-                return match sender {
-                    First::Waiter(from, sent) => ended(tasks.wake(from, sent, 0), queues),
-                    First::Nobody => ended(
-                        tasks.or_wait(task, Wait::Receiving(object as u8), patience),
-                        queues,
-                    ),
-                };
-            }
-            let word = queues.oldest(object);
-            match sender {
-                First::Waiter(from, sent) => ended(
-                    tasks.wake(from, word, 0),
-                    queues.refill(object, sent),
-                ),
-                First::Nobody => done(tasks, queues.pop(object), word),
-            }
-        },
+    let sender = tasks.first(Side::Sending, object);
+    if queues.buffered(object) == 0 {
+        return match sender {
+            First::Waiter(from, sent) => ended(tasks.wake(from, sent, 0), queues),
+            First::Nobody => ended(
+                tasks.or_wait(task, Wait::Receiving(object as u8), patience),
+                queues,
+            ),
+        };
+    }
+    let word = queues.oldest(object);
+    match sender {
+        First::Waiter(from, sent) => ended(tasks.wake(from, word, 0), queues.refill(object, sent)),
+        First::Nobody => done(tasks, queues.pop(object), word),
     }
 }
 
-// Refer, on a registered queue.
-pub fn refer(tasks: Tasks, queues: Queues, object: usize) -> QueueStatus
-    requires { ⌜ TasksHeld tasks × Held queues × (object < length (queuesOf queues)) ⌝ }
-    ensures { λ r. ⌜ r ≡ statusOf (Model.refer (waitsOf tasks) (queuesOf queues) (suc object)) ⌝ }
+// A data queue's own calls.
+pub(crate) fn own(
+    tasks: Tasks,
+    queues: Queues,
+    task: usize,
+    object: usize,
+    call: QueueCall,
+) -> Effect
+    requires { ⌜ TasksHeld.Held tasks × Held queues × TasksHeld.Free (domainsOf tasks) (waitsOf tasks) task × (object < length (queuesOf queues)) ⌝ }
+    ensures { λ r. ⌜ r ≡ effectAs (domainsOf tasks) (does (waitsOf tasks) (queuesOf queues) (suc task) (suc object) call) ⌝ }
 {
-    let sender = tasks.first_number(Side::Sending, object);
-    let receiver = tasks.first_number(Side::Receiving, object);
-    let count = queues.buffered(object);
+    match call {
+        QueueCall::Send(patience, word) => send(tasks, queues, task, object, patience, word),
+        QueueCall::Receive(patience) => receive(tasks, queues, task, object, patience),
+    }
+}
+
+// Refer.
+pub(crate) fn refer(tasks: Tasks, queues: Queues, object: usize) -> Effect
+    requires { ⌜ TasksHeld.Held tasks × Held queues × (object < length (queuesOf queues)) ⌝ }
+    ensures { λ r. ⌜ r ≡ effectAs (domainsOf tasks) (Model.effect (Model.tells (told (waitsOf tasks) (queuesOf queues) (suc object))) (waitsOf tasks) (queuesOf queues)) ⌝ }
+{
+    let first = tasks.first_number(Side::Sending, object);
+    let second = tasks.first_number(Side::Receiving, object);
+    let amount = queues.buffered(object) as u32;
     let vector = queues.vector(object);
-    QueueStatus {
-        sender,
-        receiver,
-        count,
-        vector,
+    Effect {
+        reply: Reply::plain(E_OK, 0),
+        info: Info {
+            first,
+            second,
+            amount,
+            vector,
+        },
+        tasks,
+        queues,
+    }
+}
+
+// Which operation a request is judged as.
+pub fn operation(request: QueueRequest) -> Operation
+    ensures { λ r. ⌜ r ≡ operationOf operation (actOf request) ⌝ }
+{
+    match request {
+        QueueRequest::Own(call) => match call {
+            QueueCall::Send(_, _) => Operation::Normal1,
+            QueueCall::Receive(_) => Operation::Normal2,
+        },
+        QueueRequest::Refer => Operation::Reference,
+        QueueRequest::SetVector(_) => Operation::Management,
+    }
+}
+
+// What a request does, by what its checks found.
+pub fn act(tasks: Tasks, queues: Queues, check: Check, request: QueueRequest) -> Effect
+    requires { ⌜ TasksHeld.Held tasks × Held queues × Passed tasks (length (queuesOf queues)) check ⌝ }
+    ensures { λ r. ⌜ r ≡ acted tasks queues (actOf request) check ⌝ }
+{
+    match check {
+        Check::Refused(code) => refused(tasks, queues, code),
+        Check::Admitted(task, object) => match request {
+            QueueRequest::Own(call) => own(tasks, queues, task, object, call),
+            QueueRequest::Refer => refer(tasks, queues, object),
+            QueueRequest::SetVector(vector) => done(tasks, queues.set_vector(object, vector), 0),
+        },
     }
 }

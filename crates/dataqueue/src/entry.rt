@@ -5,8 +5,7 @@ ghost use Prim.Native.Nat.{_+_, _≤_, _<_};
 ghost use lib.ListN.{length};
 ghost use Rattle.itron.specs.Limits.{maxQueues, maxWords};
 ghost use Rattle.access.specs.declared.vector.Choice.the-variants.{Given};
-ghost use Rattle.model.specs.Queues.{wordsUsed};
-ghost use Rattle.model.specs.Table.{newQueue};
+ghost use Rattle.model.specs.Queues.{wordsUsed, newQueue};
 ghost use Rattle.dataqueue.specs.View.{queuesOf};
 ghost use Rattle.dataqueue.specs.Form.{queuesAs};
 ghost use Rattle.dataqueue.specs.Held.{Held};
@@ -66,7 +65,13 @@ impl Queues {
     }
 
     // One queue more, which is empty.
-    pub fn add(mut self, domain: i32, attribute: u32, capacity: u32, vector: Vector) -> Queues
+    pub(crate) fn add(
+        mut self,
+        domain: i32,
+        attribute: u32,
+        capacity: u32,
+        vector: Vector,
+    ) -> Queues
         requires { ⌜ Held self × (length (queuesOf self) < maxQueues) × (wordsUsed (queuesOf self) + capacity ≤ maxWords) ⌝ }
         ensures { λ r. ⌜ r ≡ queuesAs (queuesOf self ++ (newQueue domain attribute capacity (Given vector) ∷ [])) ⌝ }
     {
@@ -83,5 +88,15 @@ impl Queues {
         };
         self.count = at + 1;
         self
+    }
+
+    // One queue more, as given, its default vector resolved.
+    pub fn register(self, given: QueueEntry) -> Queues
+        requires { ⌜ Held self × (length (queuesOf self) < maxQueues) × (wordsUsed (queuesOf self) + given .capacity ≤ maxWords) ⌝ }
+        ensures { λ r. ⌜ r ≡ queuesAs (queuesOf self ++ (newQueue (given .domain) (given .attribute) (given .capacity) (given .vector) ∷ [])) ⌝ }
+    {
+        let choice = given.vector;
+        let vector = choice.resolve(given.domain);
+        self.add(given.domain, given.attribute, given.capacity, vector)
     }
 }

@@ -4,13 +4,18 @@ ghost use mathlib.Core.List.{[]};
 ghost use Prim.Native.Nat.{suc, _<_};
 ghost use lib.ListN.{length, getD};
 ghost use Rattle.model.specs.Lists.{at};
-ghost use Rattle.model.specs.Queues.{queueIn, setVector};
+ghost use Rattle.model.specs.State.{no};
+ghost use Rattle.model.specs.Rooms.{setVectorOf};
+ghost use Rattle.model.specs.Queues.{queueIn, room};
+ghost use Rattle.tasks.specs.Checks.{targetIn};
 ghost use Rattle.dataqueue.specs.View.{queuesOf, infoOf};
 ghost use Rattle.dataqueue.specs.Form.{noRecord, laid, queuesAs};
 ghost use Rattle.dataqueue.specs.Held.{Held};
+use access::domain;
 use access::vector::Vector;
 use itron::limit::MAX_QUEUES;
 use itron::limit::MAX_WORDS;
+use tasks::check::Target;
 
 // A data queue: its buffered words stand at the start of its part of `words`, the oldest first.
 pub struct Queue {
@@ -71,7 +76,7 @@ impl Queues {
     }
 
     // The vector that calls on a queue are judged by.
-    pub fn vector(self, object: usize) -> Vector
+    pub(crate) fn vector(self, object: usize) -> Vector
         requires { ⌜ Held self × (object < length (queuesOf self)) ⌝ }
         ensures { λ r. ⌜ r ≡ queueIn (queuesOf self) (suc object) .vector ⌝ }
     {
@@ -79,10 +84,27 @@ impl Queues {
         queue.vector
     }
 
+    // Which queue a number names.
+    pub fn find(self, id: i32) -> Target
+        requires { ⌜ Held self ⌝ }
+        ensures { λ r. ⌜ r ≡ targetIn room (queuesOf self) (no id) ⌝ }
+    {
+        let ordinal = domain::ordinal(id, MAX_QUEUES);
+        if ordinal == 0 {
+            return Target::OutOfRange;
+        }
+        if self.count < ordinal {
+            return Target::Missing;
+        }
+        let object = ordinal - 1;
+        let vector = self.vector(object);
+        Target::At(object, vector)
+    }
+
     // Set-vector: all four patterns are replaced.
-    pub fn set_vector(mut self, object: usize, vector: Vector) -> Queues
+    pub(crate) fn set_vector(mut self, object: usize, vector: Vector) -> Queues
         requires { ⌜ Held self × (object < length (queuesOf self)) ⌝ }
-        ensures { λ r. ⌜ r ≡ queuesAs (setVector (queuesOf self) (suc object) vector) ⌝ }
+        ensures { λ r. ⌜ r ≡ queuesAs (setVectorOf room (queuesOf self) (suc object) vector) ⌝ }
     {
         let mut queue = self.records[object];
         queue.vector = vector;

@@ -1,83 +1,134 @@
--- The checks of every call, in their order. Assumes nothing.
-use Prim.Native.Nat.{ℕ, _-_, _≤_, _<_}
+-- The checks of every call, as the program makes them and as the rules order them. Assumes nothing.
+use Prim.Native.Nat.{ℕ, zero, suc, _<_}
 use native.Mathlib.Omega.{arith}
 use mathlib.Core.Path.{_≡_, refl, sym, ap, _∙_}
-use mathlib.Core.Bool.{Bool, true, false, _&&_}
+use mathlib.Core.Logic.{_≢_}
+use mathlib.Core.Bool.{Bool, true, false, not, _&&_}
 use mathlib.Core.List.{[], _∷_}
+use mathlib.Core.Option.{Option, none, some}
+use lib.Dec.{leb}
 use lib.IntN.{ℤ}
+use lib.ListN.{length}
 use types.Run.{OneOf}
 use denote.Enum.Declared.{tagOf}
-use borrow.Author.Tests.{le-leb, lt-leb}
-use Rattle.access.specs.Patterns.{pick, admitted}
+use Rattle.access.specs.Patterns.{pick}
 use Rattle.access.specs.Vectors.{patternOf}
-use Rattle.access.specs.declared.vector.Operation.{Operation}
 use Rattle.arrays.specs.Pad.{index}
-use Rattle.itron.specs.Codes.{eCtx, eId, eNoexs, eOacv, numberOf}
+use Rattle.itron.specs.Codes.{Err, eCtx, eId, ePar, eNoexs, eOacv, numberOf}
 use Rattle.model.specs.State as Model
-use Rattle.model.specs.State.{domainAt}
-use Rattle.model.specs.Calls.{ready, check, inRange, registered, vectorAt}
-use Rattle.model.specs.declared.Kind.{Kind}
-use Rattle.model.specs.declared.Kind.the-variants.{Semaphore, Queue}
-use Rattle.model.proofs.Kind.{the-type as kind-type}
+use Rattle.model.specs.State.{domainAt, no}
+use Rattle.model.specs.Answers.{refuseIf}
+use Rattle.model.specs.Acts.{Act, operationOf, clear}
+use Rattle.model.specs.Rooms.{Room, ready, inRange, admits, vectorAt, slotsOf, check}
+use Rattle.model.specs.Waits.{absent}
+use Rattle.model.proofs.Rooms.{passed}
+use Rattle.tasks.specs.declared.check.Check.{Check}
+use Rattle.tasks.specs.declared.check.Check.the-variants.{Refused, Admitted}
+use Rattle.tasks.specs.declared.check.Target.{Target}
+use Rattle.tasks.specs.declared.check.Target.the-variants.{OutOfRange, Missing, At}
 use Rattle.tasks.specs.declared.wait.Caller.{Caller}
 use Rattle.tasks.specs.declared.wait.Caller.the-variants as Caller
+use Rattle.tasks.proofs.check.Target.{the-type as target-type}
 use Rattle.tasks.proofs.wait.Caller.{the-type as caller-type}
-use Rattle.tasks.specs.declared.check.Check.the-variants.{Refused, Admitted}
-use Rattle.kernel.specs.Inside.{callerIn, checked}
+use Rattle.tasks.specs.Checks.{targetIn, Passed}
+use Rattle.tasks.specs.Held.{Free}
+use Rattle.kernel.specs.declared.state.State.{State}
+use Rattle.kernel.specs.View.{viewOf}
+use Rattle.kernel.specs.Inside.{callerIn, checkedBy, checked, checkOf}
 
 pub nobody : (w : Caller) → OneOf (0 ∷ []) (tagOf caller-type w) → w ≡ Caller.Nobody
 nobody Caller.Nobody t = refl
 nobody (Caller.Ready n d) t = absurd (omega arith)
 
-pub is-semaphore : (k : Kind) → OneOf (0 ∷ []) (tagOf kind-type k) → k ≡ Semaphore
-is-semaphore Semaphore t = refl
-is-semaphore Queue t = absurd (omega arith)
+pub is-out : (x : Target) → OneOf (0 ∷ []) (tagOf target-type x) → x ≡ OutOfRange
+is-out OutOfRange t = refl
+is-out Missing t = absurd (omega arith)
+is-out (At n v) t = absurd (omega arith)
 
-pub is-queue : (k : Kind) → OneOf (1 ∷ []) (tagOf kind-type k) → k ≡ Queue
-is-queue Queue t = refl
-is-queue Semaphore t = absurd (omega arith)
+pub is-missing : (x : Target) → OneOf (1 ∷ []) (tagOf target-type x) → x ≡ Missing
+is-missing OutOfRange t = absurd (omega arith)
+is-missing Missing t = refl
+is-missing (At n v) t = absurd (omega arith)
 
--- ---- who calls
-record Calls (m : Model.State) (t task : ℕ) (d : ℤ) : Type 0 where
-  may : (m .fixed .closed && ready m t) ≡ true
-  task-is : task ≡ index t
-  domain-is : d ≡ domainAt m t
+-- ---- who calls, which object, and whether the caller may: the checks of a call that must meet nothing besides
+module _ {C R : Type 0} (r : Room C R) (m : Model.State) (t n : ℕ) (a : Act C) where
+  abbrev may : Bool
+  may = admits (domainAt m t) (patternOf (vectorAt r m n) (operationOf (r .operation) a))
 
-module _ (m : Model.State) (t : ℕ) (o : Operation) (n : ℕ) (k : Kind) where
-  pub check-ctx : callerIn m t ≡ Caller.Nobody → Refused (numberOf eCtx) ≡ checked (check m t o n k) t n
+  by-may : (b : Bool) → pick b (Admitted (index t) (index n)) (Refused (numberOf eOacv)) ≡ checked (refuseIf (not b) eOacv none) t n
+  by-may true = refl
+  by-may false = refl
+
+  by-tests : (ready here there : Bool)
+      → checkedBy (pick ready (Caller.Ready (index t) (domainAt m t)) Caller.Nobody) (operationOf (r .operation) a) (pick here (pick there (At (index n) (vectorAt r m n)) Missing) OutOfRange)
+      ≡ checked (refuseIf (not ready) eCtx (refuseIf (not here) eId (refuseIf (not there) eNoexs (refuseIf (not may) eOacv none)))) t n
+  by-tests false here there = refl
+  by-tests true false there = refl
+  by-tests true true false = refl
+  by-tests true true true = by-may may
+
+  pub check-is : slotsOf r m n a ≡ clear → checkedBy (callerIn m t) (operationOf (r .operation) a) (targetIn r (r .records m) n) ≡ checked (check r m t n a) t n
   unfolding check
-  check-ctx h = go (m .fixed .closed && ready m t) refl h
+  check-is h =
+      let g = sym h in
+      by-tests (m .fixed .closed && ready m t) (inRange (r .most) n) (leb n (length (r .records m)))
+      ∙ (λ i.
+      checked
+      (refuseIf (not (m .fixed .closed && ready m t)) eCtx
+      (refuseIf (not (inRange (r .most) n)) eId
+      (refuseIf (not (g i .arguments)) ePar
+      (refuseIf (not (leb n (length (r .records m)))) eNoexs (refuseIf (not (g i .numbers)) ePar (refuseIf (not may) eOacv (g i .misuse)))))))
+      t
+      n)
+
+-- ---- what the checks found
+module _ {C R : Type 0} (r : Room C R) (s : State) (z n : ℤ) (a : Act C) where
+  -- a call that they refuse: the model's answer is that refusal
+  pub record Refusal (code : ℤ) : Type 0 where
+    pub err : Err
+    pub number : code ≡ numberOf err
+    pub found : check r (viewOf s) (no z) (no n) a ≡ some err
+
+  pub refusal : (code : ℤ) → checkOf r s z n a ≡ Refused code → Refusal code
+  refusal code e = go (check r (viewOf s) (no z) (no n) a) refl e
     where
-      go : (b : Bool) → (m .fixed .closed && ready m t) ≡ b → pick b (Caller.Ready (index t) (domainAt m t)) Caller.Nobody ≡ Caller.Nobody → Refused (numberOf eCtx) ≡ checked (check m t o n k) t n
-      go true e q = absurd (let z : _≡_ {A = ℕ} 0 1 = cc in omega arith)
-      go false e q = rw e
+      go : (o : Option Err) → check r (viewOf s) (no z) (no n) a ≡ o → checked o (no z) (no n) ≡ Refused code → Refusal code
+      go (some x) h q = record { err = x; number = cc; found = h }
+      go none h q = absurd (let z : _≡_ {A = ℕ} 0 1 = cc in omega arith)
 
-  caller-facts : (task : ℕ) (d : ℤ) → callerIn m t ≡ Caller.Ready task d → Calls m t task d
-  caller-facts task d h = go (m .fixed .closed && ready m t) refl h
+  -- a call that they admit: who calls is ready, and the object is there
+  pub record Admission (t o : ℕ) : Type 0 where
+    pub free : Free (viewOf s .fixed .domains) (viewOf s .waits) t
+    pub there : o < length (r .records (viewOf s))
+    pub task : no z ≡ suc t
+    pub object : no n ≡ suc o
+    pub found : check r (viewOf s) (no z) (no n) a ≡ none
+
+  pub admission : (t o : ℕ) → checkOf r s z n a ≡ Admitted t o → Admission t o
+  admission t o e = go (check r (viewOf s) (no z) (no n) a) refl e
     where
-      go : (b : Bool) → (m .fixed .closed && ready m t) ≡ b → pick b (Caller.Ready (index t) (domainAt m t)) Caller.Nobody ≡ Caller.Ready task d → Calls m t task d
-      go true e q = record { may = e; task-is = cc; domain-is = cc }
-      go false e q = absurd (let z : _≡_ {A = ℕ} 0 1 = cc in omega arith)
+      number : (k : ℕ) → k ≢ 0 → k ≡ suc (index k)
+      number zero h = absurd (h refl)
+      number (suc k) h = refl
 
-  module _ (task : ℕ) (d : ℤ) (who : callerIn m t ≡ Caller.Ready task d) where
-    pub check-id : inRange k n ≡ false → Refused (numberOf eId) ≡ checked (check m t o n k) t n
-    unfolding check
-    check-id r = rw (caller-facts task d who .may, r)
+      go : (x : Option Err) → check r (viewOf s) (no z) (no n) a ≡ x → checked x (no z) (no n) ≡ Admitted t o → Admission t o
+      go (some x) c q = absurd (let z : _≡_ {A = ℕ} 0 1 = cc in omega arith)
+      go none c q =
+          let p = passed r (viewOf s) (no z) (no n) a c in
+          let i : index (no z) ≡ t = cc in
+          let j : index (no n) ≡ o = cc in
+          let b : no z ≡ suc t = number (no z) (p .calls .caller) ∙ ap suc i in
+          let d : no n ≡ suc o = number (no n) (p .numbered) ∙ ap suc j in
+          let k = p .calls .known in
+          let l = p .there in
+          record {
+            free = record { low = omega arith; free = ap (λ (x : ℕ). absent x (viewOf s .waits)) (sym b) ∙ p .calls .free };
+            there = omega arith;
+            task = b;
+            object = d;
+            found = c;
+          }
 
-    pub check-noexs : inRange k n ≡ true → registered m k < n → Refused (numberOf eNoexs) ≡ checked (check m t o n k) t n
-    unfolding check
-    check-noexs r l = rw (caller-facts task d who .may, r, lt-leb n (registered m k) l)
-
-    pub check-oacv : inRange k n ≡ true → n ≤ registered m k → admitted (patternOf (vectorAt m k n) o) d ≡ false → Refused (numberOf eOacv) ≡ checked (check m t o n k) t n
-    unfolding check
-    check-oacv r l a =
-        let f = caller-facts task d who in
-        let b : admitted (patternOf (vectorAt m k n) o) (domainAt m t) ≡ false = ap (admitted (patternOf (vectorAt m k n) o)) (sym (f .domain-is)) ∙ a in
-        rw (f .may, r, le-leb n (registered m k) l, b)
-
-    pub check-admits : inRange k n ≡ true → n ≤ registered m k → admitted (patternOf (vectorAt m k n) o) d ≡ true → Admitted task (index n) ≡ checked (check m t o n k) t n
-    unfolding check
-    check-admits r l a =
-        let f = caller-facts task d who in
-        let b : admitted (patternOf (vectorAt m k n) o) (domainAt m t) ≡ true = ap (admitted (patternOf (vectorAt m k n) o)) (sym (f .domain-is)) ∙ a in
-        rw (f .may, r, le-leb n (registered m k) l, b) (ap (λ (x : ℕ). Admitted x (index n)) (f .task-is))
+  -- what an effect may take for granted of what they found
+  pub passes : {k : Check} → checkOf r s z n a ≡ k → Passed (s .tasks) (length (r .records (viewOf s))) k
+  passes h = record { free = λ t o e. admission t o (h ∙ e) .free; there = λ t o e. admission t o (h ∙ e) .there }

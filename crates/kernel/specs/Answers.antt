@@ -3,33 +3,26 @@ use lib.IntN.{ℤ}
 use lib.ListN.{length}
 use Rattle.model.specs.State as Model
 use Rattle.model.specs.Answers.{Out, replyOf, codeOf}
+use Rattle.model.specs.declared.Info.{Info}
 use Rattle.model.specs.declared.Reply.{Reply}
 use Rattle.kernel.specs.declared.state.State.{State}
 use Rattle.kernel.specs.declared.state.Answer.{Answer}
 use Rattle.kernel.specs.declared.state.Entered.{Entered}
-use Rattle.kernel.specs.declared.sem.SemaphoreReport.{SemaphoreReport}
-use Rattle.kernel.specs.declared.dtq.QueueReport.{QueueReport}
 use Rattle.kernel.specs.declared.query.Summary.{Summary}
 use Rattle.kernel.specs.Form.{stateOf}
 
--- ---- answers: code, word and released task by their definitions in the model, and the complete state
-abbrev pub answered : Reply → State → Answer
-answered r s = record { outcome = r .outcome; word = r .word; released = r .released; state = s }
+-- ---- answers: code, word, released task and what a refer tells by their definitions in the model, and the complete state
+abbrev pub answered : Reply → Info → State → Answer
+answered r i s = record { outcome = r .outcome; word = r .word; released = r .released; info = i; state = s }
 
 abbrev pub answerOf : Out → Answer
-answerOf o = answered (replyOf (o .answer)) (stateOf (o .state))
+answerOf o = answered (replyOf (o .answer)) (o .answer .info) (stateOf (o .state))
 
 abbrev pub entered : ℤ → State → Entered
 entered z s = record { code = z; state = s }
 
 abbrev pub enteredOf : Out → Entered
 enteredOf o = entered (codeOf (o .answer .code)) (stateOf (o .state))
-
-abbrev pub semaphoreReportOf : Out → SemaphoreReport
-semaphoreReportOf o = record { code = codeOf (o .answer .code); waiter = o .answer .info .waiter; count = o .answer .info .count; vector = o .answer .info .vector; state = stateOf (o .state) }
-
-abbrev pub queueReportOf : Out → QueueReport
-queueReportOf o = record { code = codeOf (o .answer .code); sender = o .answer .info .waiter; receiver = o .answer .info .receiver; count = o .answer .info .count; vector = o .answer .info .vector; state = stateOf (o .state) }
 
 -- ---- how large a table is
 abbrev pub summaryOf : Model.State → Summary

@@ -1,47 +1,75 @@
 -- What the kernel's private functions give; no promise cites it. Definitions only.
-use Prim.Native.Nat.{ℕ}
-use mathlib.Core.Bool.{Bool, not, _&&_}
+use Prim.Native.Nat.{ℕ, zero, suc}
+use mathlib.Core.Bool.{Bool, true, not, _&&_}
 use mathlib.Core.Option.{Option, none, some}
 use lib.Dec.{ltb}
-use lib.IntN.{ℤ}
-use Rattle.access.specs.Patterns.{pick}
+use lib.IntN.{ℤ, pos, negsuc}
+use Rattle.access.specs.Patterns.{pick, admitted}
+use Rattle.access.specs.Vectors.{patternOf}
+use Rattle.access.specs.declared.vector.Operation.{Operation}
 use Rattle.arrays.specs.Pad.{index}
-use Rattle.itron.specs.Codes.{Err, eCtx, eNoid, eId, numberOf}
+use Rattle.itron.specs.Codes.{Err, eCtx, eNoid, eId, eNoexs, eOacv, numberOf}
 use Rattle.model.specs.State as Model
-use Rattle.model.specs.State.{domainAt}
+use Rattle.model.specs.State.{domainAt, no}
 use Rattle.model.specs.Answers.{refuseIf}
-use Rattle.model.specs.Calls.{Op, ready, no, check, numberIn, kindOf, operationOf}
+use Rattle.model.specs.Acts.{Act}
+use Rattle.model.specs.Rooms.{Room, ready, check}
 use Rattle.tasks.specs.declared.check.Check.{Check}
 use Rattle.tasks.specs.declared.check.Check.the-variants.{Refused, Admitted}
+use Rattle.tasks.specs.declared.check.Target.{Target}
+use Rattle.tasks.specs.declared.check.Target.the-variants.{OutOfRange, Missing, At}
 use Rattle.tasks.specs.declared.state.Tasks.{Tasks}
 use Rattle.tasks.specs.declared.wait.Caller.{Caller}
 use Rattle.tasks.specs.declared.wait.Caller.the-variants as Caller
 use Rattle.semaphore.specs.declared.state.Semaphores.{Semaphores}
 use Rattle.dataqueue.specs.declared.state.Queues.{Queues}
+use Rattle.regions.specs.declared.state.Regions.{Regions}
 use Rattle.kernel.specs.declared.state.State.{State}
 use Rattle.kernel.specs.View.{viewOf}
 
--- ---- the state with the parts that a call changes
-abbrev pub withSemaphores : State → Tasks → Semaphores → State
-withSemaphores s t x = record { domains = s .domains; closed = s .closed; tasks = t; semaphores = x; queues = s .queues; regions = s .regions }
+-- ---- the state with another part
+abbrev pub withTasks : State → Tasks → State
+withTasks s t = record { domains = s .domains; closed = s .closed; tasks = t; semaphores = s .semaphores; queues = s .queues; regions = s .regions }
 
-abbrev pub withQueues : State → Tasks → Queues → State
-withQueues s t x = record { domains = s .domains; closed = s .closed; tasks = t; semaphores = s .semaphores; queues = x; regions = s .regions }
+abbrev pub withSemaphores : State → Semaphores → State
+withSemaphores s x = record { domains = s .domains; closed = s .closed; tasks = s .tasks; semaphores = x; queues = s .queues; regions = s .regions }
+
+abbrev pub withQueues : State → Queues → State
+withQueues s x = record { domains = s .domains; closed = s .closed; tasks = s .tasks; semaphores = s .semaphores; queues = x; regions = s .regions }
+
+abbrev pub withRegions : State → Regions → State
+withRegions s x = record { domains = s .domains; closed = s .closed; tasks = s .tasks; semaphores = s .semaphores; queues = s .queues; regions = x }
+
+abbrev pub shut : State → State
+shut s = record { domains = s .domains; closed = true; tasks = s .tasks; semaphores = s .semaphores; queues = s .queues; regions = s .regions }
 
 -- ---- the checks
 -- a registered ready task of a closed table
 abbrev pub callerIn : Model.State → ℕ → Caller
 callerIn m t = pick (m .fixed .closed && ready m t) (Caller.Ready (index t) (domainAt m t)) Caller.Nobody
 
+-- first hit wins: who calls, which object, and whether the caller's domain is admitted
+abbrev pub checkedBy : Caller → Operation → Target → Check
+checkedBy Caller.Nobody o x = Refused (numberOf eCtx)
+checkedBy (Caller.Ready t d) o OutOfRange = Refused (numberOf eId)
+checkedBy (Caller.Ready t d) o Missing = Refused (numberOf eNoexs)
+checkedBy (Caller.Ready t d) o (At n v) = pick (admitted (patternOf v o) d) (Admitted t n) (Refused (numberOf eOacv))
+
 -- a refusal's code, or the indexes of the task t and of the object n
 abbrev pub checked : Option Err → ℕ → ℕ → Check
 checked (some e) t n = Refused (numberOf e)
 checked none t n = Admitted (index t) (index n)
 
--- what the checks give for a call
-abbrev pub checkOf : State → ℤ → Op → Check
-checkOf s z op = checked (check (viewOf s) (no z) (operationOf op) (no (numberIn op)) (kindOf op)) (no z) (no (numberIn op))
+-- what the checks give for an act of task z on the object n
+abbrev pub checkOf : {C R : Type 0} → Room C R → State → ℤ → ℤ → Act C → Check
+checkOf r s z n a = checked (check r (viewOf s) (no z) (no n) a) (no z) (no n)
 
--- steps 1 to 3 of an entry's checks
+-- ---- steps 1 to 3 of an entry's checks
 abbrev pub opening : Bool → ℕ → ℕ → Bool → Option Err
 opening closed used most owned = refuseIf closed eCtx (refuseIf (not (ltb used most)) eNoid (refuseIf (not owned) eId none))
+
+-- of two codes of checks the first that refuses
+abbrev pub firstHit : ℤ → ℤ → ℤ
+firstHit (pos zero) z = z
+firstHit (pos (suc n)) z = pos (suc n)
+firstHit (negsuc n) z = negsuc n

@@ -9,15 +9,13 @@ use Rattle.model.specs.Calls.{Call, step}
 use Rattle.kernel.specs.declared.state.State.{State}
 use Rattle.kernel.specs.declared.state.Answer.{Answer}
 use Rattle.kernel.specs.declared.state.Entered.{Entered}
-use Rattle.kernel.specs.declared.sem.SemaphoreReport.{SemaphoreReport}
-use Rattle.kernel.specs.declared.dtq.QueueReport.{QueueReport}
 use Rattle.kernel.specs.View.{viewOf}
 use Rattle.kernel.specs.Valid.{Valid}
-use Rattle.kernel.specs.Answers.{answerOf, enteredOf, semaphoreReportOf, queueReportOf}
+use Rattle.kernel.specs.Answers.{answerOf, enteredOf}
 
 -- a call
 pub record Does (s : State) (c : Call) (r : Answer) : Type 0 where
-  -- code, word, released task and complete state are the model's
+  -- code, word, released task, what a refer tells and the complete state are the model's
   pub same : r ≡ answerOf (step (viewOf s) c)
   -- what is seen of the state is the model's next state
   pub seen : viewOf (r .state) ≡ step (viewOf s) c .state
@@ -26,15 +24,9 @@ pub record Does (s : State) (c : Call) (r : Answer) : Type 0 where
   -- a refusal gives back the very state
   pub kept : (e : Err) → step (viewOf s) c .answer .code ≡ error e → r .state ≡ s
 
--- a refer to a semaphore; whatever it answers, the state is the one it got
-pub record TellsSemaphore (s : State) (c : Call) (r : SemaphoreReport) : Type 0 where
-  pub same : r ≡ semaphoreReportOf (step (viewOf s) c)
-  pub valid : Valid (r .state)
-  pub kept : r .state ≡ s
-
--- a refer to a data queue
-pub record TellsQueue (s : State) (c : Call) (r : QueueReport) : Type 0 where
-  pub same : r ≡ queueReportOf (step (viewOf s) c)
+-- a refer; whatever it answers, the state is the one it got
+pub record Tells (s : State) (c : Call) (r : Answer) : Type 0 where
+  pub same : r ≡ answerOf (step (viewOf s) c)
   pub valid : Valid (r .state)
   pub kept : r .state ≡ s
 

@@ -1,151 +1,185 @@
-// The calls on data queues: both sends, both receives, refer and set-vector.
-ghost use Rattle.model.specs.Calls as Model;
-ghost use Rattle.model.specs.Calls.{call};
-ghost use Rattle.model.specs.declared.Kind.the-variants as Kinds;
-ghost use Rattle.model.specs.declared.Patience.the-variants as Patiences;
+// Data queues: their entry, the calls on them (both sends, both receives, refer and set-vector), and what a dump shows of one.
 ghost use mathlib.Core.Path.{_≡_};
-ghost use Rattle.dataqueue.specs.Effects.{sent, received};
+ghost use lib.ListN.{getD};
+ghost use Rattle.model.specs.State.{queueAt};
+ghost use Rattle.model.specs.Answers.{resultOf};
+ghost use Rattle.model.specs.Acts.{own, refer, setVector};
+ghost use Rattle.model.specs.Queues.{actOf, room};
+ghost use Rattle.model.specs.Table.{checkEntry, enter, queue};
+ghost use Rattle.model.specs.Calls.{call, onQueue};
+ghost use Rattle.model.specs.declared.Patience.the-variants.{Polling, Forever};
+ghost use Rattle.model.specs.declared.dtq.QueueCall.the-variants.{Send as send, Receive as receive};
+ghost use Rattle.dataqueue.specs.Effects.{acted};
+ghost use Rattle.dataqueue.specs.View.{infoOf};
+ghost use Rattle.kernel.specs.View.{viewOf};
 ghost use Rattle.kernel.specs.Valid.{Valid};
-ghost use Rattle.kernel.specs.Inside.{checkOf};
-ghost use Rattle.kernel.specs.Promises.{Does, TellsQueue};
+ghost use Rattle.kernel.specs.Answers.{answered};
+ghost use Rattle.kernel.specs.Inside.{withTasks, withQueues, checkOf};
+ghost use Rattle.kernel.specs.Promises.{Enters, Does, Tells};
 use crate::state::Answer;
+use crate::state::Entered;
 use crate::state::State;
-use access::vector::Operation;
+use crate::table::first_hit;
 use access::vector::Vector;
 use dataqueue::call::Effect;
-use dataqueue::call::receive;
-use dataqueue::call::refer;
-use dataqueue::call::send;
+use dataqueue::call::act;
+use dataqueue::call::operation;
+use dataqueue::entry::QueueEntry;
+use dataqueue::state::QueueInfo;
 use itron::code::E_OK;
-use model::Kind;
+use itron::limit::MAX_QUEUES;
 use model::Patience;
-use model::Reply;
-use tasks::check::Check;
-
-// What a refer to a data queue answers: the first who waits to send and to receive (0 if none), the number of buffered words, its vector.
-pub struct QueueReport {
-    pub code: i32,
-    pub sender: usize,
-    pub receiver: usize,
-    pub count: usize,
-    pub vector: Vector,
-    pub state: State,
-}
+use model::dtq::QueueCall;
+use model::dtq::QueueRequest;
 
 impl State {
-    // What a send does to the tasks and the queues.
-    pub(crate) fn send_effect(self, caller: i32, id: i32, word: u32, patience: Patience) -> Effect
+    pub(crate) fn check_queue(self, given: QueueEntry) -> i32
         requires { ⌜ Valid self ⌝ }
-        ensures { λ r. ⌜ r ≡ sent (self .tasks) (self .queues) word patience (checkOf self caller (Model.send patience id word)) ⌝ }
+        ensures { λ r. ⌜ r ≡ resultOf (checkEntry (viewOf self) (queue (given .domain) (given .attribute) (given .capacity) (given .vector))) ⌝ }
+    {
+        let queues = self.queues;
+        let opening = self.opening(queues.len(), MAX_QUEUES, self.owns(given.domain));
+        first_hit(opening, queues.check(given.attribute, given.capacity))
+    }
+
+    pub fn add_queue(mut self, given: QueueEntry) -> Entered
+        requires { ⌜ Valid self ⌝ }
+        ensures { λ r. ⌜ Enters self (enter (viewOf self) (queue (given .domain) (given .attribute) (given .capacity) (given .vector))) r ⌝ }
+    {
+        let code = self.check_queue(given);
+        if code != E_OK {
+            return self.enter(code);
+        }
+        let queues = self.queues;
+        self.queues = queues.register(given);
+        self.enter(E_OK)
+    }
+
+    // What a request does to the tasks and the queues.
+    pub(crate) fn queue_effect(self, caller: i32, id: i32, request: QueueRequest) -> Effect
+        requires { ⌜ Valid self ⌝ }
+        ensures { λ r. ⌜ r ≡ acted (self .tasks) (self .queues) (actOf request) (checkOf room self caller id (actOf request)) ⌝ }
     {
         let tasks = self.tasks;
         let queues = self.queues;
-        let check = self.check(caller, Kind::Queue, id, Operation::Normal1);
-        send(tasks, queues, check, word, patience)
+        let check = self.check(caller, queues.find(id), operation(request));
+        act(tasks, queues, check, request)
     }
 
-    // Both sends.
-    pub(crate) fn send(mut self, caller: i32, id: i32, word: u32, patience: Patience) -> Answer
-        requires { ⌜ Valid self ⌝ }
-        ensures { λ r. ⌜ Does self (call caller (Model.send patience id word)) r ⌝ }
+    // A call's effect on the tasks and the data queues.
+    pub(crate) fn with_queues(self, effect: Effect) -> Answer
+        ensures { λ r. ⌜ r ≡ answered (effect .reply) (effect .info) (withQueues (withTasks self (effect .tasks)) (effect .queues)) ⌝ }
     {
-        self.with_queues(self.send_effect(caller, id, word, patience))
+        let reply = effect.reply;
+        let outcome = reply.outcome;
+        let released = reply.released;
+        let info = effect.info;
+        let tasks = effect.tasks;
+        let queues = effect.queues;
+        let semaphores = self.semaphores;
+        let regions = self.regions;
+        Answer {
+            outcome,
+            word: reply.word,
+            released,
+            info,
+            state: State {
+                domains: self.domains,
+                closed: self.closed,
+                tasks,
+                semaphores,
+                queues,
+                regions,
+            },
+        }
     }
 
-    // What a receive does to them.
-    pub(crate) fn receive_effect(self, caller: i32, id: i32, patience: Patience) -> Effect
+    // Any request of a data queue. The calls below do not use it: measured, what several of them share copies the whole state.
+    pub(crate) fn on_queue(mut self, caller: i32, id: i32, request: QueueRequest) -> Answer
         requires { ⌜ Valid self ⌝ }
-        ensures { λ r. ⌜ r ≡ received (self .tasks) (self .queues) patience (checkOf self caller (Model.receive patience id)) ⌝ }
+        ensures { λ r. ⌜ Does self (call caller (onQueue id (actOf request))) r ⌝ }
     {
-        let tasks = self.tasks;
-        let queues = self.queues;
-        let check = self.check(caller, Kind::Queue, id, Operation::Normal2);
-        receive(tasks, queues, check, patience)
-    }
-
-    // Both receives.
-    pub(crate) fn receive(mut self, caller: i32, id: i32, patience: Patience) -> Answer
-        requires { ⌜ Valid self ⌝ }
-        ensures { λ r. ⌜ Does self (call caller (Model.receive patience id)) r ⌝ }
-    {
-        self.with_queues(self.receive_effect(caller, id, patience))
+        self.with_queues(self.queue_effect(caller, id, request))
     }
 
     // Poll-send.
     pub fn psnd_dtq(mut self, caller: i32, id: i32, word: u32) -> Answer
         requires { ⌜ Valid self ⌝ }
-        ensures { λ r. ⌜ Does self (call caller (Model.send Patiences.Polling id word)) r ⌝ }
+        ensures { λ r. ⌜ Does self (call caller (onQueue id (own (send Polling word)))) r ⌝ }
     {
-        self.send(caller, id, word, Patience::Polling)
+        self.with_queues(self.queue_effect(
+            caller,
+            id,
+            QueueRequest::Own(QueueCall::Send(Patience::Polling, word)),
+        ))
     }
 
     // Send.
     pub fn snd_dtq(mut self, caller: i32, id: i32, word: u32) -> Answer
         requires { ⌜ Valid self ⌝ }
-        ensures { λ r. ⌜ Does self (call caller (Model.send Patiences.Forever id word)) r ⌝ }
+        ensures { λ r. ⌜ Does self (call caller (onQueue id (own (send Forever word)))) r ⌝ }
     {
-        self.send(caller, id, word, Patience::Forever)
+        self.with_queues(self.queue_effect(
+            caller,
+            id,
+            QueueRequest::Own(QueueCall::Send(Patience::Forever, word)),
+        ))
     }
 
     // Poll-receive.
     pub fn prcv_dtq(mut self, caller: i32, id: i32) -> Answer
         requires { ⌜ Valid self ⌝ }
-        ensures { λ r. ⌜ Does self (call caller (Model.receive Patiences.Polling id)) r ⌝ }
+        ensures { λ r. ⌜ Does self (call caller (onQueue id (own (receive Polling)))) r ⌝ }
     {
-        self.receive(caller, id, Patience::Polling)
+        self.with_queues(self.queue_effect(
+            caller,
+            id,
+            QueueRequest::Own(QueueCall::Receive(Patience::Polling)),
+        ))
     }
 
     // Receive.
     pub fn rcv_dtq(mut self, caller: i32, id: i32) -> Answer
         requires { ⌜ Valid self ⌝ }
-        ensures { λ r. ⌜ Does self (call caller (Model.receive Patiences.Forever id)) r ⌝ }
+        ensures { λ r. ⌜ Does self (call caller (onQueue id (own (receive Forever)))) r ⌝ }
     {
-        self.receive(caller, id, Patience::Forever)
+        self.with_queues(self.queue_effect(
+            caller,
+            id,
+            QueueRequest::Own(QueueCall::Receive(Patience::Forever)),
+        ))
     }
 
     // Refer.
-    pub fn ref_dtq(mut self, caller: i32, id: i32) -> QueueReport
+    pub fn ref_dtq(mut self, caller: i32, id: i32) -> Answer
         requires { ⌜ Valid self ⌝ }
-        ensures { λ r. ⌜ TellsQueue self (call caller (Model.refer Kinds.Queue id)) r ⌝ }
+        ensures { λ r. ⌜ Tells self (call caller (onQueue id refer)) r ⌝ }
     {
-        match self.check(caller, Kind::Queue, id, Operation::Reference) {
-            Check::Refused(code) => QueueReport {
-                code,
-                sender: 0,
-                receiver: 0,
-                count: 0,
-                vector: Vector::KERNEL,
-                state: self,
-            },
-            Check::Admitted(_, object) => {
-                let tasks = self.tasks;
-                let queues = self.queues;
-                let status = refer(tasks, queues, object);
-                let vector = status.vector;
-                QueueReport {
-                    code: E_OK,
-                    sender: status.sender,
-                    receiver: status.receiver,
-                    count: status.count,
-                    vector,
-                    state: self,
-                }
-            },
-        }
+        self.with_queues(self.queue_effect(caller, id, QueueRequest::Refer))
     }
 
     // Set-vector.
     pub fn sac_dtq(mut self, caller: i32, id: i32, vector: Vector) -> Answer
         requires { ⌜ Valid self ⌝ }
-        ensures { λ r. ⌜ Does self (call caller (Model.setVector Kinds.Queue id vector)) r ⌝ }
+        ensures { λ r. ⌜ Does self (call caller (onQueue id (setVector vector))) r ⌝ }
     {
-        match self.check(caller, Kind::Queue, id, Operation::Management) {
-            Check::Refused(code) => self.refuse(code),
-            Check::Admitted(_, object) => {
-                let queues = self.queues;
-                self.queues = queues.set_vector(object, vector);
-                self.answer(Reply::plain(E_OK, 0))
-            },
-        }
+        self.with_queues(self.queue_effect(caller, id, QueueRequest::SetVector(vector)))
+    }
+
+    pub fn queue(self, number: usize) -> QueueInfo
+        requires { ⌜ Valid self ⌝ }
+        ensures { λ r. ⌜ r ≡ infoOf (queueAt (viewOf self) number) ⌝ }
+    {
+        let queues = self.queues;
+        queues.queue(number)
+    }
+
+    // A queue's buffered word with k older ones; 0 past the last.
+    pub fn word(self, number: usize, k: usize) -> u32
+        requires { ⌜ Valid self ⌝ }
+        ensures { λ r. ⌜ r ≡ getD (queueAt (viewOf self) number .buffer) k 0 ⌝ }
+    {
+        let queues = self.queues;
+        queues.word(number, k)
     }
 }

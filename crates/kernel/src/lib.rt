@@ -1,4 +1,5 @@
 // The kernel core (document 01): the state by value, and every operation on it.
+pub mod call;
 pub mod check;
 pub mod dtq;
 pub mod mem;

@@ -2,20 +2,16 @@
 ghost use mathlib.Core.Path.{_≡_};
 ghost use mathlib.Core.List.{map};
 ghost use lib.ListN.{getD};
-ghost use Rattle.model.specs.Lists.{at};
-ghost use Rattle.model.specs.State.{semAt, queueAt, noRegion, place};
+ghost use Rattle.model.specs.State.{place};
 ghost use Rattle.model.specs.Waits.{waitersAt};
 ghost use Rattle.tasks.specs.Ends.{taskOf, taskIn};
-ghost use Rattle.dataqueue.specs.View as QueuesView;
-ghost use Rattle.regions.specs.View as RegionsView;
 ghost use Rattle.kernel.specs.View.{viewOf};
 ghost use Rattle.kernel.specs.Valid.{Valid};
 ghost use Rattle.kernel.specs.Answers.{summaryOf};
 use crate::state::State;
 use dataqueue::state::QueueInfo;
-use model::Semaphore;
 use model::Side;
-use regions::state::RegionInfo;
+use model::sem::Semaphore;
 use tasks::task::Task;
 
 // How large the table is: the number n of user domains, the protection unit, whether it is closed, and its entries by kind.
@@ -56,39 +52,6 @@ impl State {
     {
         let tasks = self.tasks;
         tasks.task(number)
-    }
-
-    pub fn semaphore(self, number: usize) -> Semaphore
-        requires { ⌜ Valid self ⌝ }
-        ensures { λ r. ⌜ r ≡ semAt (viewOf self) number ⌝ }
-    {
-        let semaphores = self.semaphores;
-        semaphores.semaphore(number)
-    }
-
-    pub fn queue(self, number: usize) -> QueueInfo
-        requires { ⌜ Valid self ⌝ }
-        ensures { λ r. ⌜ r ≡ QueuesView.infoOf (queueAt (viewOf self) number) ⌝ }
-    {
-        let queues = self.queues;
-        queues.queue(number)
-    }
-
-    // A queue's buffered word with k older ones; 0 past the last.
-    pub fn word(self, number: usize, k: usize) -> u32
-        requires { ⌜ Valid self ⌝ }
-        ensures { λ r. ⌜ r ≡ getD (queueAt (viewOf self) number .buffer) k 0 ⌝ }
-    {
-        let queues = self.queues;
-        queues.word(number, k)
-    }
-
-    pub fn region(self, number: usize) -> RegionInfo
-        requires { ⌜ Valid self ⌝ }
-        ensures { λ r. ⌜ r ≡ RegionsView.infoOf (at noRegion (viewOf self .fixed .regions) number) ⌝ }
-    {
-        let regions = self.regions;
-        regions.region(number)
     }
 
     // The task that waits on that side of an object with k tasks ahead; 0 past the last.

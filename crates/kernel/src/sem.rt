@@ -1,132 +1,166 @@
-// The calls on semaphores: signal, poll, wait, refer and set-vector.
-ghost use Rattle.model.specs.Calls as Model;
-ghost use Rattle.model.specs.Calls.{call};
-ghost use Rattle.model.specs.declared.Kind.the-variants as Kinds;
-ghost use Rattle.model.specs.declared.Patience.the-variants as Patiences;
+// Semaphores: their entry, the calls on them (signal, poll, wait, refer and set-vector), and what a dump shows of one.
 ghost use mathlib.Core.Path.{_≡_};
-ghost use Rattle.semaphore.specs.Effects.{signalled, acquired};
+ghost use Rattle.model.specs.State.{semAt};
+ghost use Rattle.model.specs.Answers.{resultOf};
+ghost use Rattle.model.specs.Acts.{own, refer, setVector};
+ghost use Rattle.model.specs.Semaphores.{actOf, room};
+ghost use Rattle.model.specs.Table.{checkEntry, enter, sem};
+ghost use Rattle.model.specs.Calls.{call, onSemaphore};
+ghost use Rattle.model.specs.declared.Patience.the-variants.{Polling, Forever};
+ghost use Rattle.model.specs.declared.sem.SemaphoreCall.the-variants.{Signal as signal, Acquire as acquire};
+ghost use Rattle.semaphore.specs.Effects.{acted};
+ghost use Rattle.kernel.specs.View.{viewOf};
 ghost use Rattle.kernel.specs.Valid.{Valid};
-ghost use Rattle.kernel.specs.Inside.{checkOf};
-ghost use Rattle.kernel.specs.Promises.{Does, TellsSemaphore};
+ghost use Rattle.kernel.specs.Answers.{answered};
+ghost use Rattle.kernel.specs.Inside.{withTasks, withSemaphores, checkOf};
+ghost use Rattle.kernel.specs.Promises.{Enters, Does, Tells};
 use crate::state::Answer;
+use crate::state::Entered;
 use crate::state::State;
-use access::vector::Operation;
+use crate::table::first_hit;
 use access::vector::Vector;
 use itron::code::E_OK;
-use model::Kind;
+use itron::limit::MAX_SEMAPHORES;
 use model::Patience;
-use model::Reply;
+use model::sem::Semaphore;
+use model::sem::SemaphoreCall;
+use model::sem::SemaphoreRequest;
 use semaphore::call::Effect;
-use semaphore::call::acquire;
-use semaphore::call::refer;
-use semaphore::call::signal;
-use tasks::check::Check;
-
-// What a refer to a semaphore answers: its first waiter (0 if none), its count and its vector.
-pub struct SemaphoreReport {
-    pub code: i32,
-    pub waiter: usize,
-    pub count: u32,
-    pub vector: Vector,
-    pub state: State,
-}
+use semaphore::call::act;
+use semaphore::call::operation;
+use semaphore::entry;
+use semaphore::entry::SemaphoreEntry;
 
 impl State {
-    // What a signal does to the tasks and the semaphores.
-    pub(crate) fn signal_effect(self, caller: i32, id: i32) -> Effect
+    pub(crate) fn check_semaphore(self, given: SemaphoreEntry) -> i32
         requires { ⌜ Valid self ⌝ }
-        ensures { λ r. ⌜ r ≡ signalled (self .tasks) (self .semaphores) (checkOf self caller (Model.signal id)) ⌝ }
+        ensures { λ r. ⌜ r ≡ resultOf (checkEntry (viewOf self) (sem (given .domain) (given .attribute) (given .start) (given .max) (given .vector))) ⌝ }
+    {
+        let semaphores = self.semaphores;
+        let opening = self.opening(semaphores.len(), MAX_SEMAPHORES, self.owns(given.domain));
+        first_hit(
+            opening,
+            entry::check(given.attribute, given.start, given.max),
+        )
+    }
+
+    pub fn add_semaphore(mut self, given: SemaphoreEntry) -> Entered
+        requires { ⌜ Valid self ⌝ }
+        ensures { λ r. ⌜ Enters self (enter (viewOf self) (sem (given .domain) (given .attribute) (given .start) (given .max) (given .vector))) r ⌝ }
+    {
+        let code = self.check_semaphore(given);
+        if code != E_OK {
+            return self.enter(code);
+        }
+        let semaphores = self.semaphores;
+        self.semaphores = semaphores.register(given);
+        self.enter(E_OK)
+    }
+
+    // What a request does to the tasks and the semaphores.
+    pub(crate) fn semaphore_effect(self, caller: i32, id: i32, request: SemaphoreRequest) -> Effect
+        requires { ⌜ Valid self ⌝ }
+        ensures { λ r. ⌜ r ≡ acted (self .tasks) (self .semaphores) (actOf request) (checkOf room self caller id (actOf request)) ⌝ }
     {
         let tasks = self.tasks;
         let semaphores = self.semaphores;
-        let check = self.check(caller, Kind::Semaphore, id, Operation::Normal1);
-        signal(tasks, semaphores, check)
+        let check = self.check(caller, semaphores.find(id), operation(request));
+        act(tasks, semaphores, check, request)
+    }
+
+    // A call's effect on the tasks and the semaphores. The state is made anew: measured, storing into it costs a copy of it more.
+    pub(crate) fn with_semaphores(self, effect: Effect) -> Answer
+        ensures { λ r. ⌜ r ≡ answered (effect .reply) (effect .info) (withSemaphores (withTasks self (effect .tasks)) (effect .semaphores)) ⌝ }
+    {
+        let reply = effect.reply;
+        let outcome = reply.outcome;
+        let released = reply.released;
+        let info = effect.info;
+        let tasks = effect.tasks;
+        let semaphores = effect.semaphores;
+        let queues = self.queues;
+        let regions = self.regions;
+        Answer {
+            outcome,
+            word: reply.word,
+            released,
+            info,
+            state: State {
+                domains: self.domains,
+                closed: self.closed,
+                tasks,
+                semaphores,
+                queues,
+                regions,
+            },
+        }
+    }
+
+    // Any request of a semaphore. The calls below do not use it: measured, what several of them share copies the whole state.
+    pub(crate) fn on_semaphore(mut self, caller: i32, id: i32, request: SemaphoreRequest) -> Answer
+        requires { ⌜ Valid self ⌝ }
+        ensures { λ r. ⌜ Does self (call caller (onSemaphore id (actOf request))) r ⌝ }
+    {
+        self.with_semaphores(self.semaphore_effect(caller, id, request))
     }
 
     // Signal.
     pub fn sig_sem(mut self, caller: i32, id: i32) -> Answer
         requires { ⌜ Valid self ⌝ }
-        ensures { λ r. ⌜ Does self (call caller (Model.signal id)) r ⌝ }
+        ensures { λ r. ⌜ Does self (call caller (onSemaphore id (own signal))) r ⌝ }
     {
-        self.with_semaphores(self.signal_effect(caller, id))
-    }
-
-    // What a poll or a wait does to them.
-    pub(crate) fn acquire_effect(self, caller: i32, id: i32, patience: Patience) -> Effect
-        requires { ⌜ Valid self ⌝ }
-        ensures { λ r. ⌜ r ≡ acquired (self .tasks) (self .semaphores) patience (checkOf self caller (Model.acquire patience id)) ⌝ }
-    {
-        let tasks = self.tasks;
-        let semaphores = self.semaphores;
-        let check = self.check(caller, Kind::Semaphore, id, Operation::Normal2);
-        acquire(tasks, semaphores, check, patience)
-    }
-
-    // Poll and wait.
-    pub(crate) fn acquire(mut self, caller: i32, id: i32, patience: Patience) -> Answer
-        requires { ⌜ Valid self ⌝ }
-        ensures { λ r. ⌜ Does self (call caller (Model.acquire patience id)) r ⌝ }
-    {
-        self.with_semaphores(self.acquire_effect(caller, id, patience))
+        self.with_semaphores(self.semaphore_effect(
+            caller,
+            id,
+            SemaphoreRequest::Own(SemaphoreCall::Signal),
+        ))
     }
 
     // Poll.
     pub fn pol_sem(mut self, caller: i32, id: i32) -> Answer
         requires { ⌜ Valid self ⌝ }
-        ensures { λ r. ⌜ Does self (call caller (Model.acquire Patiences.Polling id)) r ⌝ }
+        ensures { λ r. ⌜ Does self (call caller (onSemaphore id (own (acquire Polling)))) r ⌝ }
     {
-        self.acquire(caller, id, Patience::Polling)
+        self.with_semaphores(self.semaphore_effect(
+            caller,
+            id,
+            SemaphoreRequest::Own(SemaphoreCall::Acquire(Patience::Polling)),
+        ))
     }
 
     // Wait.
     pub fn wai_sem(mut self, caller: i32, id: i32) -> Answer
         requires { ⌜ Valid self ⌝ }
-        ensures { λ r. ⌜ Does self (call caller (Model.acquire Patiences.Forever id)) r ⌝ }
+        ensures { λ r. ⌜ Does self (call caller (onSemaphore id (own (acquire Forever)))) r ⌝ }
     {
-        self.acquire(caller, id, Patience::Forever)
+        self.with_semaphores(self.semaphore_effect(
+            caller,
+            id,
+            SemaphoreRequest::Own(SemaphoreCall::Acquire(Patience::Forever)),
+        ))
     }
 
     // Refer.
-    pub fn ref_sem(mut self, caller: i32, id: i32) -> SemaphoreReport
+    pub fn ref_sem(mut self, caller: i32, id: i32) -> Answer
         requires { ⌜ Valid self ⌝ }
-        ensures { λ r. ⌜ TellsSemaphore self (call caller (Model.refer Kinds.Semaphore id)) r ⌝ }
+        ensures { λ r. ⌜ Tells self (call caller (onSemaphore id refer)) r ⌝ }
     {
-        match self.check(caller, Kind::Semaphore, id, Operation::Reference) {
-            Check::Refused(code) => SemaphoreReport {
-                code,
-                waiter: 0,
-                count: 0,
-                vector: Vector::KERNEL,
-                state: self,
-            },
-            Check::Admitted(_, object) => {
-                let tasks = self.tasks;
-                let semaphores = self.semaphores;
-                let status = refer(tasks, semaphores, object);
-                let vector = status.vector;
-                SemaphoreReport {
-                    code: E_OK,
-                    waiter: status.waiter,
-                    count: status.count,
-                    vector,
-                    state: self,
-                }
-            },
-        }
+        self.with_semaphores(self.semaphore_effect(caller, id, SemaphoreRequest::Refer))
     }
 
     // Set-vector.
     pub fn sac_sem(mut self, caller: i32, id: i32, vector: Vector) -> Answer
         requires { ⌜ Valid self ⌝ }
-        ensures { λ r. ⌜ Does self (call caller (Model.setVector Kinds.Semaphore id vector)) r ⌝ }
+        ensures { λ r. ⌜ Does self (call caller (onSemaphore id (setVector vector))) r ⌝ }
     {
-        match self.check(caller, Kind::Semaphore, id, Operation::Management) {
-            Check::Refused(code) => self.refuse(code),
-            Check::Admitted(_, object) => {
-                let semaphores = self.semaphores;
-                self.semaphores = semaphores.set_vector(object, vector);
-                self.answer(Reply::plain(E_OK, 0))
-            },
-        }
+        self.with_semaphores(self.semaphore_effect(caller, id, SemaphoreRequest::SetVector(vector)))
+    }
+
+    pub fn semaphore(self, number: usize) -> Semaphore
+        requires { ⌜ Valid self ⌝ }
+        ensures { λ r. ⌜ r ≡ semAt (viewOf self) number ⌝ }
+    {
+        let semaphores = self.semaphores;
+        semaphores.semaphore(number)
     }
 }

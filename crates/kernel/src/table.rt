@@ -1,19 +1,17 @@
-// Building the table: fresh, the entries, closing (document 01, "Building the table").
+// Building the table: fresh, a task's entry, closing, and what the entries of all kinds share (document 01, "Building the table").
 ghost use mathlib.Core.Path.{_≡_};
-ghost use mathlib.Core.Option.{none};
 ghost use Rattle.model.specs.Answers.{resultOf};
-ghost use Rattle.model.specs.Table.{emptyState, fresh, owns, ownsTask, checkEntry, enter, task, sem, queue, region, close};
+ghost use Rattle.model.specs.Table.{emptyState, fresh, owns, ownsTask, checkEntry, enter, task, close};
 ghost use Rattle.kernel.specs.View.{viewOf};
 ghost use Rattle.kernel.specs.Form.{stateOf};
 ghost use Rattle.kernel.specs.Valid.{Valid};
-ghost use Rattle.kernel.specs.Inside.{opening};
+ghost use Rattle.kernel.specs.Inside.{opening, firstHit};
 ghost use Rattle.kernel.specs.Promises.{Begins, Enters};
 use crate::state::Entered;
 use crate::state::State;
 use access::domain::KERNEL_DOMAIN;
 use access::domain::NO_DOMAIN;
 use access::domain::ordinal;
-use dataqueue::entry::QueueEntry;
 use dataqueue::state::Queues;
 use itron::code::E_CTX;
 use itron::code::E_ID;
@@ -21,19 +19,22 @@ use itron::code::E_NOID;
 use itron::code::E_OK;
 use itron::code::E_PAR;
 use itron::limit::MAX_DOMAINS;
-use itron::limit::MAX_QUEUES;
-use itron::limit::MAX_REGIONS;
-use itron::limit::MAX_SEMAPHORES;
 use itron::limit::MAX_TASKS;
 use itron::limit::MIN_UNIT;
-use model::Semaphore;
-use regions::entry::RegionEntry;
 use regions::state::Regions;
 use regions::unit::is_unit;
-use semaphore::entry;
-use semaphore::entry::SemaphoreEntry;
 use semaphore::state::Semaphores;
 use tasks::state::Tasks;
+
+// Of two codes of checks the first that refuses.
+pub(crate) fn first_hit(first: i32, second: i32) -> i32
+    ensures { λ r. ⌜ r ≡ firstHit first second ⌝ }
+{
+    if first != E_OK {
+        return first;
+    }
+    second
+}
 
 impl State {
     // The open table with no entry.
@@ -104,42 +105,6 @@ impl State {
         self.opening(tasks.len(), MAX_TASKS, self.owns_task(domain))
     }
 
-    pub(crate) fn check_semaphore(self, given: SemaphoreEntry) -> i32
-        requires { ⌜ Valid self ⌝ }
-        ensures { λ r. ⌜ r ≡ resultOf (checkEntry (viewOf self) (sem (given .domain) (given .attribute) (given .start) (given .max) (given .vector))) ⌝ }
-    {
-        let semaphores = self.semaphores;
-        let code = self.opening(semaphores.len(), MAX_SEMAPHORES, self.owns(given.domain));
-        if code != E_OK {
-            return code;
-        }
-        entry::check(given.attribute, given.start, given.max)
-    }
-
-    pub(crate) fn check_queue(self, given: QueueEntry) -> i32
-        requires { ⌜ Valid self ⌝ }
-        ensures { λ r. ⌜ r ≡ resultOf (checkEntry (viewOf self) (queue (given .domain) (given .attribute) (given .capacity) (given .vector))) ⌝ }
-    {
-        let queues = self.queues;
-        let code = self.opening(queues.len(), MAX_QUEUES, self.owns(given.domain));
-        if code != E_OK {
-            return code;
-        }
-        queues.check(given.attribute, given.capacity)
-    }
-
-    pub(crate) fn check_region(self, given: RegionEntry) -> i32
-        requires { ⌜ Valid self ⌝ }
-        ensures { λ r. ⌜ r ≡ resultOf (checkEntry (viewOf self) (region (given .domain) (given .attribute) (given .base) (given .size) (given .vector))) ⌝ }
-    {
-        let regions = self.regions;
-        let code = self.opening(regions.len(), MAX_REGIONS, self.owns(given.domain));
-        if code != E_OK {
-            return code;
-        }
-        regions.check(given.attribute, given.base, given.size)
-    }
-
     // A task entry holds its domain only.
     pub fn add_task(mut self, domain: i32) -> Entered
         requires { ⌜ Valid self ⌝ }
@@ -151,63 +116,6 @@ impl State {
         }
         let tasks = self.tasks;
         self.tasks = tasks.add(domain);
-        self.enter(E_OK)
-    }
-
-    pub fn add_semaphore(mut self, given: SemaphoreEntry) -> Entered
-        requires { ⌜ Valid self ⌝ }
-        ensures { λ r. ⌜ Enters self (enter (viewOf self) (sem (given .domain) (given .attribute) (given .start) (given .max) (given .vector))) r ⌝ }
-    {
-        let code = self.check_semaphore(given);
-        if code != E_OK {
-            return self.enter(code);
-        }
-        let choice = given.vector;
-        let vector = choice.resolve(given.domain);
-        let semaphores = self.semaphores;
-        self.semaphores = semaphores.add(Semaphore {
-            domain: given.domain,
-            attribute: given.attribute,
-            max: given.max,
-            count: given.start,
-            vector,
-        });
-        self.enter(E_OK)
-    }
-
-    pub fn add_queue(mut self, given: QueueEntry) -> Entered
-        requires { ⌜ Valid self ⌝ }
-        ensures { λ r. ⌜ Enters self (enter (viewOf self) (queue (given .domain) (given .attribute) (given .capacity) (given .vector))) r ⌝ }
-    {
-        let code = self.check_queue(given);
-        if code != E_OK {
-            return self.enter(code);
-        }
-        let choice = given.vector;
-        let vector = choice.resolve(given.domain);
-        let queues = self.queues;
-        self.queues = queues.add(given.domain, given.attribute, given.capacity, vector);
-        self.enter(E_OK)
-    }
-
-    pub fn add_region(mut self, given: RegionEntry) -> Entered
-        requires { ⌜ Valid self ⌝ }
-        ensures { λ r. ⌜ Enters self (enter (viewOf self) (region (given .domain) (given .attribute) (given .base) (given .size) (given .vector))) r ⌝ }
-    {
-        let code = self.check_region(given);
-        if code != E_OK {
-            return self.enter(code);
-        }
-        let choice = given.vector;
-        let vector = choice.resolve(given.domain);
-        let regions = self.regions;
-        self.regions = regions.add(
-            given.domain,
-            given.attribute,
-            given.base,
-            given.size,
-            vector,
-        );
         self.enter(E_OK)
     }
 

@@ -12,20 +12,19 @@ use Rattle.itron.specs.Limits.{maxDomains, minUnit}
 use Rattle.model.specs.Lists.{All, at}
 use Rattle.model.specs.State as Model
 use Rattle.model.specs.State.{Queue, Place, Waiter, noQueue}
-use Rattle.model.specs.Answers.{done, replyOf}
+use Rattle.model.specs.Answers.{done}
 use Rattle.model.specs.Waits.{waitersAt}
 use Rattle.model.specs.Table.{Entry, task, sem, queue, region, fresh, freshBy, emptyState, enter, enterBy, add, checkEntry, close, closeBy, shut}
 use Rattle.model.specs.Units.{unitOk}
-use Rattle.model.specs.Calls.{Call, call, refer, step}
-use Rattle.model.specs.History.{event, after, history, total}
+use Rattle.model.specs.Calls.{Call, step}
+use Rattle.model.specs.Lists.{total}
+use Rattle.model.specs.History.{event, after, history}
 use Rattle.model.specs.Demand3.{Demand3, JustClosed}
 use Rattle.model.specs.Turns.{serves, tasksOf, InTurn}
-use Rattle.model.specs.declared.Kind.the-variants.{Semaphore, Queue as QueueKind}
 use Rattle.model.specs.declared.Released.{Released}
 use Rattle.model.specs.Answers as Answers
 use Rattle.model.proofs.Lists.{all-snoc}
-use Rattle.model.proofs.Steps.{info-law}
-use Rattle.model.proofs.Refers.{refer-state, refer-reply, refer-receiver}
+use Rattle.model.proofs.Refers.{refer-state}
 use Rattle.model.proofs.Owners.{Owners, owners-fresh, owners-enter, owners-close, owners-step}
 use Rattle.model.proofs.Demand3.{demand3}
 use Rattle.model.proofs.Turns.{in-turn}
@@ -34,8 +33,9 @@ use Rattle.kernel.specs.declared.state.Answer.{Answer}
 use Rattle.kernel.specs.declared.state.Entered.{Entered}
 use Rattle.kernel.specs.View.{viewOf}
 use Rattle.kernel.specs.Valid.{Valid}
+use Rattle.kernel.specs.Answers.{answerOf}
 use Rattle.kernel.specs.Promises.{Enters, Does}
-use Rattle.laws.specs.Runs.{Built, begun, entered, Said, saidBy, saidIn, toldOfSemaphore, toldOfQueue, Ran, start, calls, refersSemaphore, refersQueue}
+use Rattle.laws.specs.Runs.{Built, begun, entered, Said, saidBy, saidIn, Ran, start, calls, refers}
 use Rattle.laws.specs.Claims.{Whole, TakesTurns}
 
 -- ---- before the closing nobody waits and nothing is buffered
@@ -97,32 +97,22 @@ just-closed {s} b g = subst (λ (m : Model.State). JustClosed m) (sym (g .seen))
 pub state-of : {s₀ s : State} {cs : List Call} {l : List Said} → Ran s₀ cs s l → viewOf s ≡ after (viewOf s₀) cs
 unfolding after
 state-of start = refl
-state-of (calls cs s l h c n r d) = d .seen ∙ ap (λ (m : Model.State). step m c .state) (state-of h)
-state-of {s₀} (refersSemaphore cs s l h z id r d) = ap viewOf (d .kept) ∙ state-of h ∙ sym (refer-state (after (viewOf s₀) cs) z Semaphore id)
-state-of {s₀} (refersQueue cs s l h z id r d) = ap viewOf (d .kept) ∙ state-of h ∙ sym (refer-state (after (viewOf s₀) cs) z QueueKind id)
+state-of (calls cs s l h c r d) = d .seen ∙ ap (λ (m : Model.State). step m c .state) (state-of h)
+state-of {s₀} (refers cs s l h c g r d) = ap viewOf (d .kept) ∙ state-of h ∙ sym (refer-state (after (viewOf s₀) cs) (c .caller) (c .op) g)
+
+-- what an answer says is what the rules' answer to the same call says
+says : {s s₁ : State} {cs : List Call} {l : List Said} → Ran s₁ cs s l → (c : Call) (r : Answer) → r ≡ answerOf (step (viewOf s) c) → saidBy r ≡ saidIn (event (after (viewOf s₁) cs) c)
+says h c r e = ap saidBy e ∙ ap (λ (m : Model.State). saidIn (event m c)) (state-of h)
 
 pub answers-of : {s₀ s : State} {cs : List Call} {l : List Said} → Ran s₀ cs s l → l ≡ map saidIn (history (viewOf s₀) cs)
 unfolding history
 answers-of start = refl
-answers-of {s₀} (calls cs s l h c n r d) =
-    let i = info-law (viewOf s) c n in
-    let a : saidBy r ≡ saidIn (event (viewOf s) c) = ap saidBy (d .same) ∙ (λ j. record { reply = replyOf (step (viewOf s) c .answer); info = sym i j }) in
-    let e : saidBy r ≡ saidIn (event (after (viewOf s₀) cs) c) = a ∙ ap (λ (m : Model.State). saidIn (event m c)) (state-of h) in
+answers-of (calls cs s l h c r d) =
+    let e = says h c r (d .same) in
     let b = answers-of h in
     λ j. e j ∷ b j
-answers-of {s₀} (refersSemaphore cs s l h z id r d) =
-    let o = step (viewOf s) (call z (refer Semaphore id)) in
-    let p = refer-reply (viewOf s) z Semaphore id in
-    let q = refer-receiver (viewOf s) z id in
-    let a : toldOfSemaphore r ≡ saidIn (event (viewOf s) (call z (refer Semaphore id))) = ap toldOfSemaphore (d .same) ∙ (λ j. record { reply = p j; info = record { waiter = o .answer .info .waiter; receiver = q j; count = o .answer .info .count; vector = o .answer .info .vector } }) in
-    let e = a ∙ ap (λ (m : Model.State). saidIn (event m (call z (refer Semaphore id)))) (state-of h) in
-    let b = answers-of h in
-    λ j. e j ∷ b j
-answers-of {s₀} (refersQueue cs s l h z id r d) =
-    let o = step (viewOf s) (call z (refer QueueKind id)) in
-    let p = refer-reply (viewOf s) z QueueKind id in
-    let a : toldOfQueue r ≡ saidIn (event (viewOf s) (call z (refer QueueKind id))) = ap toldOfQueue (d .same) ∙ (λ j. record { reply = p j; info = o .answer .info }) in
-    let e = a ∙ ap (λ (m : Model.State). saidIn (event m (call z (refer QueueKind id)))) (state-of h) in
+answers-of (refers cs s l h c g r d) =
+    let e = says h c r (d .same) in
     let b = answers-of h in
     λ j. e j ∷ b j
 

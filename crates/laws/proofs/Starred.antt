@@ -8,7 +8,8 @@ use Rattle.model.specs.Table.{Entry, enter, fresh, close}
 use Rattle.model.specs.Units.{unitOk}
 use Rattle.model.specs.Regions.{inChain, fromHolder, judge}
 use Rattle.model.specs.Verdict.{verdict}
-use Rattle.model.specs.Calls.{check, step}
+use Rattle.model.specs.Rooms.{check}
+use Rattle.model.specs.Calls.{step}
 use Rattle.model.specs.Demand3.{JustClosed}
 use Rattle.laws.specs.Starred.{Step, unit, entries, enterAll, bench, run, starred}
 use Rattle.laws.proofs.Runs.{Idle, idle-enter, idle-fresh, idle-closed}

@@ -6,7 +6,8 @@ use lib.ListN.{length, drop}
 use Rattle.model.specs.State.{Place, Waiter}
 use Rattle.model.specs.Waits.{waitersAt}
 use Rattle.model.specs.Calls.{Call}
-use Rattle.model.specs.History.{event, after, history, total}
+use Rattle.model.specs.Lists.{total}
+use Rattle.model.specs.History.{event, after, history}
 use Rattle.model.specs.Demand3.{Demand3}
 use Rattle.model.specs.Turns.{serves}
 use Rattle.kernel.specs.declared.state.State.{State}

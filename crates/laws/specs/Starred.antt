@@ -11,9 +11,11 @@ use Rattle.model.specs.State.{semAt, queueAt}
 use Rattle.model.specs.Answers.{Answer}
 use Rattle.model.specs.Table.{Entry, task, sem, queue, region, fresh, enter, close}
 use Rattle.model.specs.Verdict.{verdict}
-use Rattle.model.specs.Calls.{Op, call, signal, acquire, send, receive, setVector, step}
+use Rattle.model.specs.Acts.{own, setVector}
+use Rattle.model.specs.declared.sem.SemaphoreCall.the-variants.{Signal as signal, Acquire as acquire}
+use Rattle.model.specs.declared.dtq.QueueCall.the-variants.{Send as send, Receive as receive}
+use Rattle.model.specs.Calls.{Op, onSemaphore, onQueue, call, step}
 use Rattle.model.specs.declared.Released.{Released}
-use Rattle.model.specs.declared.Kind.the-variants.{Semaphore}
 use Rattle.model.specs.declared.Patience.the-variants.{Polling, Forever}
 
 abbrev pub vector : ℕ → ℕ → ℕ → ℕ → Vector
@@ -103,28 +105,28 @@ abbrev pub starred : List Step
 starred =
     -- S
     (restart ⇒ began)
-    ∷ (does 1 (acquire Polling (pos 1)) ⇒ done)
-    ∷ (does 1 (acquire Polling (pos 1)) ⇒ refused eTmout)
-    ∷ (does 1 (acquire Forever (pos 1)) ⇒ waits)
-    ∷ (does 2 (signal (pos 1)) ⇒ refused eOacv)
-    ∷ (does 3 (setVector Semaphore (pos 1) (vector 2 2 0 3)) ⇒ done)
-    ∷ (does 2 (signal (pos 1)) ⇒ frees 0 1)
+    ∷ (does 1 (onSemaphore (pos 1) (own (acquire Polling))) ⇒ done)
+    ∷ (does 1 (onSemaphore (pos 1) (own (acquire Polling))) ⇒ refused eTmout)
+    ∷ (does 1 (onSemaphore (pos 1) (own (acquire Forever))) ⇒ waits)
+    ∷ (does 2 (onSemaphore (pos 1) (own signal)) ⇒ refused eOacv)
+    ∷ (does 3 (onSemaphore (pos 1) (setVector (vector 2 2 0 3))) ⇒ done)
+    ∷ (does 2 (onSemaphore (pos 1) (own signal)) ⇒ frees 0 1)
     ∷ (count 1 ⇒ counts 0)
-    ∷ (does 2 (signal (pos 1)) ⇒ done)
-    ∷ (does 2 (signal (pos 1)) ⇒ done)
-    ∷ (does 2 (signal (pos 1)) ⇒ refused eQovr)
+    ∷ (does 2 (onSemaphore (pos 1) (own signal)) ⇒ done)
+    ∷ (does 2 (onSemaphore (pos 1) (own signal)) ⇒ done)
+    ∷ (does 2 (onSemaphore (pos 1) (own signal)) ⇒ refused eQovr)
     -- Q
     ∷ (restart ⇒ began)
-    ∷ (does 2 (receive Forever (pos 1)) ⇒ refused eOacv)
-    ∷ (does 1 (send Polling (pos 1) 700) ⇒ done)
-    ∷ (does 1 (send Polling (pos 1) 701) ⇒ done)
-    ∷ (does 1 (send Polling (pos 1) 702) ⇒ refused eTmout)
-    ∷ (does 1 (send Forever (pos 1) 702) ⇒ waits)
-    ∷ (does 4 (receive Polling (pos 1)) ⇒ frees 700 1)
+    ∷ (does 2 (onQueue (pos 1) (own (receive Forever))) ⇒ refused eOacv)
+    ∷ (does 1 (onQueue (pos 1) (own (send Polling 700))) ⇒ done)
+    ∷ (does 1 (onQueue (pos 1) (own (send Polling 701))) ⇒ done)
+    ∷ (does 1 (onQueue (pos 1) (own (send Polling 702))) ⇒ refused eTmout)
+    ∷ (does 1 (onQueue (pos 1) (own (send Forever 702))) ⇒ waits)
+    ∷ (does 4 (onQueue (pos 1) (own (receive Polling))) ⇒ frees 700 1)
     ∷ (buffer 1 ⇒ buffers (701 ∷ 702 ∷ []))
-    ∷ (does 2 (send Polling (pos 2) 5) ⇒ refused eTmout)
-    ∷ (does 2 (send Forever (pos 2) 5) ⇒ waits)
-    ∷ (does 1 (receive Forever (pos 2)) ⇒ frees 5 2)
+    ∷ (does 2 (onQueue (pos 2) (own (send Polling 5))) ⇒ refused eTmout)
+    ∷ (does 2 (onQueue (pos 2) (own (send Forever 5))) ⇒ waits)
+    ∷ (does 1 (onQueue (pos 2) (own (receive Forever))) ⇒ frees 5 2)
     -- Regions: domain 2 reads 0x1FFF size 1, size 2, and 0x2000 size 1
     ∷ (asks 2 8191 1 reads ⇒ finds none)
     ∷ (asks 2 8191 2 reads ⇒ finds (some eObj))

@@ -1,142 +1,198 @@
--- One case analysis of `step` for all laws: a claim P of a call and what it gives holds if it holds in each of the fourteen cases
-use mathlib.Core.Path.{_≡_, refl, sym}
+-- Case analyses of a call for all laws: by how it ends, whatever it asks of whom; and by what one object sees of it. Assumes nothing.
+use mathlib.Core.Path.{_≡_, refl, sym, ap, _∙_, subst}
 use mathlib.Core.Logic.{_≢_}
-use mathlib.Core.Bool.{Bool, true, false, not, _&&_}
-use mathlib.Core.List.{List, [], _∷_, _++_}
+use mathlib.Core.Bool.{Bool, true, false}
+use mathlib.Core.List.{List, [], _∷_}
 use mathlib.Core.Option.{Option, none, some}
-use Prim.Native.Nat.{ℕ, zero, suc, _+_, _≤_}
-use lib.ListN.{length}
-use lib.Dec.{eqb, ltb, leb, leb→le}
+use Prim.Native.Nat.{ℕ, _≤_}
+use lib.Dec.{eqb}
 use lib.IntN.{ℤ}
-pub use Rattle.model.specs.Calls.{call}
-use Rattle.itron.specs.Codes.{Err, eQovr, eTmout, ok}
-use Rattle.model.proofs.Cases.{patternFor, setCount, setBuffer, release, waits-as, signalOf, acquireOf, sendOf, receiveOf}
-use Rattle.model.specs.Answers.{Out, refuseIf, say, out, refuse, done}
-use Rattle.model.specs.Calls.{Kind, semaphore, queue, Op, signal, acquire, send, receive, refer, setVector, Call, no, vectorAt, admits, kindOf, numberIn, operationOf, registered, ready, inRange, most, check, infoOf, setVectorOf, act, actIf, step}
-use Rattle.model.specs.State.{Vector, onSem, receiving, sending, Waiter, State, place, semAt, queueAt, domainAt, waiter}
-use Rattle.model.specs.Waits.{Patience, polling, forever, senders, receivers, waitersAt, absent, freed}
-use Rattle.model.proofs.Lists.{and-left, and-right, no-both}
+use lib.ListN.{length}
+use Rattle.itron.specs.Codes.{Err, eCtx, eOacv, ok, waiting, error}
+use Rattle.model.specs.Lists.{at, All}
+use Rattle.model.specs.State.{Vector, Place, Waiter, State, setWaits, no}
+use Rattle.model.specs.Answers.{Answer, Effect, Out, out, say, refuse, tells}
+use Rattle.model.specs.Waits.{waitersAt, firstTask, leave, join, freed}
+use Rattle.model.specs.Acts.{Act, own, refer, setVector, isRefer}
+use Rattle.model.specs.Rooms.{Room, check, actOn, onRecords, setVectorOf, Asks, onObject}
+use Rattle.model.specs.Calls.{Op, onSemaphore, onQueue, Call, asks, actIf, step}
+use Rattle.model.specs.History.{event, Made, seenBy, askedIf, vectorBy}
+use Rattle.model.specs.Conditions.{Plain}
+use Rattle.model.proofs.Lists.{eq-of, ne-of, Distinct}
+use Rattle.model.proofs.Endings.{Vacant, SameBut, Ends}
+use Rattle.model.proofs.Endings as Ended
+use Rattle.model.proofs.Rooms.{RoomLaws, Calls, Passed, passed, Stranger, isAt, room-at, other-number, own-same, is-refer, waits-apart, stays, vectors, act-not-denied}
+use Rattle.model.proofs.Semaphores as SemaphoreRoom
+use Rattle.model.proofs.Queues as QueueRoom
 
--- what the checks leave
-pub record Passed (s : State) (t : ℕ) (op : Op) (n : ℕ) (k : Kind) : Type 0 where
-  pub caller : t ≢ 0
-  pub known : t ≤ length (s .fixed .domains)
-  pub free : absent t (s .waits) ≡ true
-  pub numbered : n ≢ 0
-  pub there : n ≤ registered s k
-  pub may : admits (domainAt s t) (patternFor op (vectorAt s k n)) ≡ true
+-- ---- by how it ends: for laws that ask nothing of the records
+-- a state in which other records may stand, and these tasks wait
+pub record Alike (s : State) (ws : List Waiter) (s′ : State) : Type 0 where
+  pub fixed : s′ .fixed ≡ s .fixed
+  pub waits : s′ .waits ≡ ws
 
-refuse-no : (b : Bool) (e : Err) (r : Option Err) → refuseIf b e r ≡ none → (b ≡ false) × (r ≡ none)
-refuse-no true e r h = absurd (let z : _≡_ {A = Bool} true false = cc in no-both {b = true} refl z)
-refuse-no false e r h = (refl, h)
+-- a claim about a call of task t that asks x, and what it gives
+pub record Endings (s : State) (P : ℕ → Asks → Out → Type 0) : Type 0 where
+  pub refused : (t : ℕ) (x : Asks) (e : Err) → x .serves (error e) ≡ none → P t x (refuse s e)
+  pub tells : (t : ℕ) (x : Asks) → x .isRefer ≡ true → x .serves ok ≡ none → P t x (out (tells (x .told s)) s)
+  pub gives : (t : ℕ) (x : Asks) (s′ : State) (w : ℕ) → Alike s (s .waits) s′ → Vacant (s .waits) (x .serves ok) → P t x (out (say ok w []) s′)
+  pub wakes : (t : ℕ) (x : Asks) (s′ : State) (p : Place) (e : Waiter) (l : List Waiter) (w h : ℕ) → Alike s (leave (e .task) (s .waits)) s′ → x .serves ok ≡ some p → waitersAt s p ≡ e ∷ l
+      → P t x (out (say ok w (freed e h)) s′)
+  pub waits : (t : ℕ) (x : Asks) (e : Waiter) → x .check s t ≡ none → Calls s t → e .task ≡ t → Plain e → x .begins t ≡ e ∷ [] → Vacant (s .waits) (x .serves waiting)
+      → P t x (out (say waiting 0 []) (setWaits s (join e (s .waits))))
 
-not-no : (b : Bool) → not b ≡ false → b ≡ true
-not-no true h = refl
-not-no false h = sym h
+-- ---- what holds of every call, whatever it asks of whom
+pub record Lawful (x : Asks) : Type 1 where
+  -- a call that passes its checks ends in one of these ways; it is not denied
+  pub ends : (s : State) (P : ℕ → Asks → Out → Type 0) → Endings s P → (t : ℕ) → x .check s t ≡ none → P t x (x .act s t)
+  pub undenied : (s : State) (t : ℕ) → x .act s t .answer .code ≡ error eOacv → ⊥
+  -- an open table refuses it; refused it serves nobody
+  pub closed-first : (s : State) (t : ℕ) → s .fixed .closed ≡ false → x .check s t ≡ some eCtx
+  pub unserved : (e : Err) → x .serves (error e) ≡ none
+  -- a refer tells, of tasks that wait, and changes nothing
+  pub refers : (s : State) (t : ℕ) → x .isRefer ≡ true → x .act s t ≡ out (tells (x .told s)) s
+  pub tells-first : (s : State) (m : ℕ) → ((p : Place) → firstTask (waitersAt s p) ≤ m) → x .told s .first ≤ m
+  pub tells-second : (s : State) (m : ℕ) → ((p : Place) → firstTask (waitersAt s p) ≤ m) → x .told s .second ≤ m
 
-pub passed : (s : State) (t : ℕ) (op : Op) (n : ℕ) (k : Kind) → check s t (operationOf op) n k ≡ none → Passed s t op n k
-unfolding check
-passed s t op n k h =
-    let h₁ = refuse-no _ _ _ h in
-    let h₂ = refuse-no _ _ _ (h₁ .1) in
-    let h₃ = refuse-no _ _ _ (h₂ .1) in
-    let h₄ = refuse-no _ _ _ (h₃ .1) in
-    let r : ready s t ≡ true = and-right (s .fixed .closed) (ready s t) (not-no _ (h₁ .0)) in
-    let i : inRange k n ≡ true = not-no _ (h₂ .0) in
-    let b : not (eqb t 0) && leb t (length (s .fixed .domains)) ≡ true = and-left (not (eqb t 0) && leb t (length (s .fixed .domains))) (absent t (s .waits)) r in
-    let l : leb t (length (s .fixed .domains)) ≡ true = and-right (not (eqb t 0)) (leb t (length (s .fixed .domains))) b in
-    record {
-      caller = λ e. no-both (and-left (not (eqb t 0)) (leb t (length (s .fixed .domains))) b) (rw e refl);
-      known = leb→le t (length (s .fixed .domains)) (rw l tt);
-      free = and-right (not (eqb t 0) && leb t (length (s .fixed .domains))) (absent t (s .waits)) r;
-      numbered = λ e. no-both (and-left (not (eqb n 0)) (leb n (most k)) i) (rw e refl);
-      there = leb→le n (registered s k) (rw (not-no (leb n (registered s k)) (h₃ .0)) tt);
-      may = not-no _ (h₄ .0);
-    }
+-- a call on an object of a room
+module _ {C R : Type 0} {r : Room C R} (l : RoomLaws r) (n : ℤ) where
+  serves-none : (a : Act C) (e : Err) → onObject r n a .serves (error e) ≡ none
+  serves-none a e = own-same none (λ c. r .serves (no n) c (error e)) (l .unserved (no n) e) a
 
-pub record Covers (s : State) (P : Call → Out → Type 0) : Type 0 where
-  pub refused : (c : Call) (e : Err) → P c (refuse s e)
-  pub signalWakes : (t n : ℤ) → Passed s (no t) (signal n) (no n) semaphore → (e : Waiter) (l : List Waiter)
-      → waitersAt s (place onSem (no n)) ≡ e ∷ l
-      → P (call t (signal n)) (out (say ok 0 (freed e 0)) (release s (e .task)))
-  pub signalCounts : (t n : ℤ) → Passed s (no t) (signal n) (no n) semaphore
-      → waitersAt s (place onSem (no n)) ≡ []
-      → leb (semAt s (no n) .max) (semAt s (no n) .count) ≡ false
-      → P (call t (signal n)) (done (setCount s (no n) (suc (semAt s (no n) .count))))
-  pub acquires : (t n : ℤ) (p : Patience) → Passed s (no t) (acquire p n) (no n) semaphore → (k : ℕ)
-      → semAt s (no n) .count ≡ suc k
-      → P (call t (acquire p n)) (done (setCount s (no n) k))
-  pub acquireWaits : (t n : ℤ) → Passed s (no t) (acquire forever n) (no n) semaphore
-      → semAt s (no n) .count ≡ 0
-      → P (call t (acquire forever n)) (waits-as s (waiter (no t) onSem (no n) 0))
-  pub sendPasses : (t n : ℤ) (w : ℕ) (p : Patience) → Passed s (no t) (send p n w) (no n) queue → (e : Waiter) (l : List Waiter)
-      → receivers s (no n) ≡ e ∷ l
-      → P (call t (send p n w)) (out (say ok 0 (freed e w)) (release s (e .task)))
-  pub sendStores : (t n : ℤ) (w : ℕ) (p : Patience) → Passed s (no t) (send p n w) (no n) queue
-      → receivers s (no n) ≡ [] → ltb (length (queueAt s (no n) .buffer)) (queueAt s (no n) .capacity) ≡ true
-      → P (call t (send p n w)) (done (setBuffer s (no n) (queueAt s (no n) .buffer ++ (w ∷ []))))
-  pub sendWaits : (t n : ℤ) (w : ℕ) → Passed s (no t) (send forever n w) (no n) queue
-      → receivers s (no n) ≡ [] → ltb (length (queueAt s (no n) .buffer)) (queueAt s (no n) .capacity) ≡ false
-      → P (call t (send forever n w)) (waits-as s (waiter (no t) sending (no n) w))
-  pub receives : (t n : ℤ) (p : Patience) → Passed s (no t) (receive p n) (no n) queue → (x : ℕ) (b : List ℕ)
-      → queueAt s (no n) .buffer ≡ x ∷ b → senders s (no n) ≡ []
-      → P (call t (receive p n)) (out (say ok x []) (setBuffer s (no n) b))
-  pub receiveRefills : (t n : ℤ) (p : Patience) → Passed s (no t) (receive p n) (no n) queue → (x : ℕ) (b : List ℕ) (e : Waiter) (l : List Waiter)
-      → queueAt s (no n) .buffer ≡ x ∷ b → senders s (no n) ≡ e ∷ l
-      → P (call t (receive p n)) (out (say ok x (freed e 0)) (release (setBuffer s (no n) (b ++ (e .word ∷ []))) (e .task)))
-  pub receivePasses : (t n : ℤ) (p : Patience) → Passed s (no t) (receive p n) (no n) queue → (e : Waiter) (l : List Waiter)
-      → queueAt s (no n) .buffer ≡ [] → senders s (no n) ≡ e ∷ l
-      → P (call t (receive p n)) (out (say ok (e .word) (freed e 0)) (release s (e .task)))
-  pub receiveWaits : (t n : ℤ) → Passed s (no t) (receive forever n) (no n) queue
-      → queueAt s (no n) .buffer ≡ [] → senders s (no n) ≡ []
-      → P (call t (receive forever n)) (waits-as s (waiter (no t) receiving (no n) 0))
-  pub refers : (t n : ℤ) (k : Kind) → Passed s (no t) (refer k n) (no n) k
-      → P (call t (refer k n)) (out (record { code = ok; word = 0; released = []; info = infoOf s k (no n) }) s)
-  pub setsVector : (t n : ℤ) (k : Kind) (v : Vector) → Passed s (no t) (setVector k n v) (no n) k
-      → P (call t (setVector k n v)) (done (setVectorOf s k (no n) v))
+  module _ (s : State) (P : ℕ → Asks → Out → Type 0) (es : Endings s P) (t : ℕ) where
+    in-room : (ws : List Waiter) (xs : List R) → Alike s ws (r .with s ws xs)
+    in-room ws xs = record { fixed = l .fixed-with s ws xs; waits = l .waits-with s ws xs }
 
-module _ (s : State) (P : Call → Out → Type 0) (cs : Covers s P) where
-  cover-signal : (t n : ℤ) → Passed s (no t) (signal n) (no n) semaphore → (l : List Waiter) (full : Bool)
-      → waitersAt s (place onSem (no n)) ≡ l → leb (semAt s (no n) .max) (semAt s (no n) .count) ≡ full → P (call t (signal n)) (signalOf s (no n) l full)
-  cover-signal t n a (e ∷ l) full h r = cs .signalWakes t n a e l h
-  cover-signal t n a [] true h r = cs .refused (call t (signal n)) eQovr
-  cover-signal t n a [] false h r = cs .signalCounts t n a h r
+    end-own : (c : C) → check r s t (no n) (own c) ≡ none → {o : Effect R}
+        → Ends R (s .waits) (r .records s) t (isAt (l .tag) (no n)) (SameBut (r .nothing) (l .entry) (no n) (r .records s)) (r .begins t (no n) c) (r .serves (no n) c) o
+        → P t (onObject r n (own c)) (onRecords r s o)
+    end-own c h (Ended.refused e x) =
+        subst (λ (s′ : State). P t (onObject r n (own c)) (out (say (error e) 0 []) s′)) (sym (l .same-with s (s .waits))) (es .refused t (onObject r n (own c)) e (serves-none (own c) e))
+    end-own c h (Ended.gives xs w k v) = es .gives t (onObject r n (own c)) _ w (in-room (s .waits) xs) v
+    end-own c h (Ended.wakes xs p e m w v k y z f) = es .wakes t (onObject r n (own c)) _ p e m w v (in-room (leave (e .task) (s .waits)) xs) z f
+    end-own c h (Ended.waits e z m b v) =
+        let p = passed r s t (no n) (own c) h in
+        let g : All Plain (e ∷ []) = subst (All Plain) b (l .plain t (no n) (p .numbered) c) in
+        subst (λ (s′ : State). P t (onObject r n (own c)) (out (say waiting 0 []) s′)) (sym (l .same-with s (join e (s .waits)))) (es .waits t (onObject r n (own c)) e h (p .calls) z (g .0) b v)
 
-  cover-acquire : (t n : ℤ) (p : Patience) → Passed s (no t) (acquire p n) (no n) semaphore → (k : ℕ)
-      → semAt s (no n) .count ≡ k → P (call t (acquire p n)) (acquireOf s (no t) (no n) p k)
-  cover-acquire t n p a (suc k) h = cs .acquires t n p a k h
-  cover-acquire t n polling a zero h = cs .refused (call t (acquire polling n)) eTmout
-  cover-acquire t n forever a zero h = cs .acquireWaits t n a h
+    end-room : (a : Act C) → check r s t (no n) a ≡ none → P t (onObject r n a) (onObject r n a .act s t)
+    end-room (own c) h = end-own c h (l .ends (s .waits) (r .records s) t (no n) c)
+    end-room refer h = subst (λ (s′ : State). P t (onObject r n refer) (out (tells (onObject r n refer .told s)) s′)) (sym (l .same-with s (s .waits))) (es .tells t (onObject r n refer) refl refl)
+    end-room (setVector v) h = es .gives t (onObject r n (setVector v)) _ 0 (in-room (s .waits) (setVectorOf r (r .records s) (no n) v)) tt
 
-  cover-send : (t n : ℤ) (w : ℕ) (p : Patience) → Passed s (no t) (send p n w) (no n) queue → (l : List Waiter) (room : Bool)
-      → receivers s (no n) ≡ l → ltb (length (queueAt s (no n) .buffer)) (queueAt s (no n) .capacity) ≡ room
-      → P (call t (send p n w)) (sendOf s (no t) (no n) w p l room)
-  cover-send t n w p a (e ∷ l) room h k = cs .sendPasses t n w p a e l h
-  cover-send t n w p a [] true h k = cs .sendStores t n w p a h k
-  cover-send t n w polling a [] false h k = cs .refused (call t (send polling n w)) eTmout
-  cover-send t n w forever a [] false h k = cs .sendWaits t n w a h k
+  refers-room : (s : State) (t : ℕ) (a : Act C) → isRefer a ≡ true → onObject r n a .act s t ≡ out (tells (onObject r n a .told s)) s
+  refers-room s t a h =
+      ap (λ (b : Act C). onObject r n b .act s t) (is-refer a h) ∙ ap (out (tells (onObject r n a .told s))) (l .same-with s (s .waits))
 
-  cover-receive : (t n : ℤ) (p : Patience) → Passed s (no t) (receive p n) (no n) queue → (b : List ℕ) (l : List Waiter)
-      → queueAt s (no n) .buffer ≡ b → senders s (no n) ≡ l
-      → P (call t (receive p n)) (receiveOf s (no t) (no n) p b l)
-  cover-receive t n p a (x ∷ b) [] h k = cs .receives t n p a x b h k
-  cover-receive t n p a (x ∷ b) (e ∷ l) h k = cs .receiveRefills t n p a x b e l h k
-  cover-receive t n p a [] (e ∷ l) h k = cs .receivePasses t n p a e l h k
-  cover-receive t n polling a [] [] h k = cs .refused (call t (receive polling n)) eTmout
-  cover-receive t n forever a [] [] h k = cs .receiveWaits t n a h k
+  opened-first : (s : State) (t : ℕ) (a : Act C) → s .fixed .closed ≡ false → check r s t (no n) a ≡ some eCtx
+  unfolding check
+  opened-first s t a h = rw h
 
-  cover-act : (t : ℤ) (op : Op) → Passed s (no t) op (no (numberIn op)) (kindOf op) → P (call t op) (act s (no t) op)
-  cover-act t (signal n) a = cover-signal t n a _ _ refl refl
-  cover-act t (acquire p n) a = cover-acquire t n p a _ refl
-  cover-act t (send p n w) a = cover-send t n w p a _ _ refl refl
-  cover-act t (receive p n) a = cover-receive t n p a _ _ refl refl
-  cover-act t (refer k n) a = cs .refers t n k a
-  cover-act t (setVector k n v) a = cs .setsVector t n k v a
+  pub lawful-room : (a : Act C) → Lawful (onObject r n a)
+  lawful-room a = record {
+    ends = λ s P es t h. end-room s P es t a h;
+    undenied = λ s t q. act-not-denied l (s .waits) (r .records s) t (no n) a q;
+    closed-first = λ s t h. opened-first s t a h;
+    unserved = serves-none a;
+    refers = λ s t h. refers-room s t a h;
+    tells-first = λ s m h. l .told-first (s .waits) (r .records s) (no n) m h;
+    tells-second = λ s m h. l .told-second (s .waits) (r .records s) (no n) m h;
+  }
 
-  pub cover : (c : Call) → P c (step s c)
+pub lawful : (op : Op) → Lawful (asks op)
+lawful (onSemaphore n a) = lawful-room SemaphoreRoom.laws n a
+lawful (onQueue n a) = lawful-room QueueRoom.laws n a
+
+module _ (s : State) (P : ℕ → Asks → Out → Type 0) (es : Endings s P) where
+  pub ends : (c : Call) → P (no (c .caller)) (asks (c .op)) (step s c)
   unfolding step
-  cover c = go (check s (no (c .caller)) (operationOf (c .op)) (no (numberIn (c .op))) (kindOf (c .op))) refl
+  ends c = go (asks (c .op) .check s (no (c .caller))) refl
     where
-      go : (o : Option Err) → check s (no (c .caller)) (operationOf (c .op)) (no (numberIn (c .op))) (kindOf (c .op)) ≡ o → P c (actIf s (no (c .caller)) (c .op) o)
-      go (some e) h = cs .refused c e
-      go none h = cover-act (c .caller) (c .op) (passed s (no (c .caller)) (c .op) (no (numberIn (c .op))) (kindOf (c .op)) h)
+      go : (o : Option Err) → asks (c .op) .check s (no (c .caller)) ≡ o → P (no (c .caller)) (asks (c .op)) (actIf s (no (c .caller)) (asks (c .op)) o)
+      go (some e) h = es .refused (no (c .caller)) (asks (c .op)) e (lawful (c .op) .unserved e)
+      go none h = lawful (c .op) .ends s P es (no (c .caller)) h
+
+-- ---- by what one object sees of it
+-- whose a call is, as a room sees it: it is on one of the room's objects, or has nothing to do with the room
+pub data Whose {C R : Type 0} (r : Room C R) (l : RoomLaws r) (askedOf : ℕ → Op → Option (Act C)) (op : Op) : Type 0 where
+  mine : (n : ℤ) (a : Act C) → asks op ≡ onObject r n a → ((i : ℕ) → askedOf i op ≡ askedIf (eqb i (no n)) a) → Whose r l askedOf op
+  foreign : Stranger r (l .tag) (asks op) → ((i : ℕ) → askedOf i op ≡ none) → Whose r l askedOf op
+
+-- a claim about what the object i sees of a call, and the state after it: what is asked of another object leaves its record and its wait queues alone
+pub record Sees {C R : Type 0} (r : Room C R) (l : RoomLaws r) (s : State) (i : ℕ) (P : Made C → State → Type 0) : Type 0 where
+  pub refused : (t : ℕ) (a : Option (Act C)) (e : Err) → P (record { caller = t; asked = a; answer = say (error e) 0 [] }) s
+  pub elsewhere : (t : ℕ) (a : Answer) (s′ : State) → at (r .nothing) (r .records s′) i ≡ at (r .nothing) (r .records s) i
+      → ((p : Place) → isAt (l .tag) i p ≡ true → waitersAt s′ p ≡ waitersAt s p) → P (record { caller = t; asked = none; answer = a }) s′
+  pub here : (t : ℕ) (a : Act C) → Passed r s t i a
+      → P (record { caller = t; asked = some a; answer = actOn r (s .waits) (r .records s) t i a .answer }) (onRecords r s (actOn r (s .waits) (r .records s) t i a) .state)
+
+module _ {C R : Type 0} (r : Room C R) (l : RoomLaws r) (askedOf : ℕ → Op → Option (Act C)) (whose : (op : Op) → Whose r l askedOf op) (s : State) where
+  module _ (d : Distinct (s .waits)) (i : ℕ) (P : Made C → State → Type 0) (cs : Sees r l s i P) (t : ℕ) where
+    -- what the object sees of a call that asks x
+    abbrev Seen : Option (Act C) → Asks → Type 0
+    Seen a x = P (record { caller = t; asked = a; answer = x .act s t .answer }) (x .act s t .state)
+
+    seen-here : (n : ℤ) (a : Act C) → check r s t (no n) a ≡ none → Seen (askedIf (eqb i (no n)) a) (onObject r n a)
+    seen-here n a h = go (eqb i (no n)) refl
+      where
+        o : ℕ → Effect R
+        o j = actOn r (s .waits) (r .records s) t j a
+
+        go : (b : Bool) → eqb i (no n) ≡ b → Seen (askedIf b a) (onObject r n a)
+        go true e = subst (λ (j : ℕ). P (record { caller = t; asked = some a; answer = o j .answer }) (onRecords r s (o j) .state)) (eq-of i (no n) e)
+            (cs .here t a (subst (λ (j : ℕ). Passed r s t j a) (sym (eq-of i (no n) e)) (passed r s t (no n) a h)))
+        go false e =
+            let z = ne-of i (no n) e in
+            cs .elsewhere t (o (no n) .answer) _ (ap (λ (xs : List R). at (r .nothing) xs i) (l .records-with s _ _) ∙ stays l (s .waits) (r .records s) t (no n) a .other i z)
+            (λ p f. ap (λ (ws : List Waiter). waitersAt (setWaits s ws) p) (l .waits-with s _ _) ∙ waits-apart l (s .waits) (r .records s) t (no n) d a p (other-number (l .tag) (no n) i p f (λ q. z (sym q))))
+
+    by-whose : (op : Op) → asks op .check s t ≡ none → Whose r l askedOf op → Seen (askedOf i op) (asks op)
+    by-whose op h (mine n a e f) =
+        subst (λ (b : Option (Act C)). Seen b (asks op)) (sym (f i))
+        (subst (λ (x : Asks). Seen (askedIf (eqb i (no n)) a) x) (sym e) (seen-here n a (subst (λ (x : Asks). x .check s t ≡ none) e h)))
+    by-whose op h (foreign k f) =
+        subst (λ (b : Option (Act C)). Seen b (asks op)) (sym (f i))
+        (cs .elsewhere t (asks op .act s t .answer) (asks op .act s t .state) (ap (λ (xs : List R). at (r .nothing) xs i) (k .records s t)) (λ p g. k .waits s t d p (room-at (l .tag) i p g)))
+
+  module _ (d : Distinct (s .waits)) (i : ℕ) (P : Made C → State → Type 0) (cs : Sees r l s i P) where
+    pub sees : (c : Call) → P (seenBy (askedOf i) (event s c)) (step s c .state)
+    unfolding step
+    sees c = go (asks (c .op) .check s (no (c .caller))) refl
+      where
+        go : (o : Option Err) → asks (c .op) .check s (no (c .caller)) ≡ o
+            → P (record { caller = no (c .caller); asked = askedOf i (c .op); answer = actIf s (no (c .caller)) (asks (c .op)) o .answer }) (actIf s (no (c .caller)) (asks (c .op)) o .state)
+        go (some e) h = cs .refused (no (c .caller)) (askedOf i (c .op)) e
+        go none h = by-whose d i P cs (no (c .caller)) (c .op) h (whose (c .op))
+
+  -- a claim about all records of the room
+  module _ (Q : List R → Type 0) (z : Q (r .records s)) (k : (t n : ℕ) (a : Act C) → Passed r s t n a → Q (actOn r (s .waits) (r .records s) t n a .records)) where
+    by-records : (t : ℕ) (op : Op) → asks op .check s t ≡ none → Whose r l askedOf op → Q (r .records (asks op .act s t .state))
+    by-records t op h (mine n a e f) = subst (λ (x : Asks). Q (r .records (x .act s t .state))) (sym e) (subst Q (sym (l .records-with s _ _)) (k t (no n) a (passed r s t (no n) a (subst (λ (x : Asks). x .check s t ≡ none) e h))))
+    by-records t op h (foreign g f) = subst Q (sym (g .records s t)) z
+
+    pub keeps-records : (c : Call) → Q (r .records (step s c .state))
+    unfolding step
+    keeps-records c = go (asks (c .op) .check s (no (c .caller))) refl
+      where
+        go : (o : Option Err) → asks (c .op) .check s (no (c .caller)) ≡ o → Q (r .records (actIf s (no (c .caller)) (asks (c .op)) o .state))
+        go (some e) h = z
+        go none h = by-records (no (c .caller)) (c .op) h (whose (c .op))
+
+  -- ---- an entry is kept as given: no call changes what it gave of any object, or the number of objects
+  pub entries-stay : (c : Call) → ((i : ℕ) → l .bare (at (r .nothing) (r .records (step s c .state)) i) ≡ l .bare (at (r .nothing) (r .records s) i)) × (length (r .records (step s c .state)) ≡ length (r .records s))
+  entries-stay = keeps-records (λ (xs : List R). ((i : ℕ) → l .bare (at (r .nothing) xs i) ≡ l .bare (at (r .nothing) (r .records s) i)) × (length xs ≡ length (r .records s))) ((λ i. refl), refl)
+      (λ t n a p. let k = stays l (s .waits) (r .records s) t n a in (k .entries, k .count))
+
+  -- ---- the vectors: that of an object is the last one set on it
+  -- a refusal sets none
+  unset : (a : Option (Act C)) (e : Err) (v : Vector) → v ≡ vectorBy a (error e) v
+  unset none e v = refl
+  unset (some a) e v = refl
+
+  pub vector-law : Distinct (s .waits) → (i : ℕ) (c : Call)
+      → r .vector (at (r .nothing) (r .records (step s c .state)) i) ≡ vectorBy (askedOf i (c .op)) (step s c .answer .code) (r .vector (at (r .nothing) (r .records s) i))
+  vector-law d i c = sees d i (λ m s′. r .vector (at (r .nothing) (r .records s′) i) ≡ vectorBy (m .asked) (m .answer .code) (r .vector (at (r .nothing) (r .records s) i))) (record {
+    refused = λ t a e. unset a e (r .vector (at (r .nothing) (r .records s) i));
+    elsewhere = λ t a s′ e f. ap (r .vector) e;
+    here = λ t a p. ap (λ (xs : List R). r .vector (at (r .nothing) xs i)) (l .records-with s _ _) ∙ vectors l (s .waits) (r .records s) t i a (p .numbered) (p .there);
+  }) c

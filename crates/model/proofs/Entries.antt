@@ -18,20 +18,13 @@ use Rattle.model.specs.Lists.{at}
 use Rattle.model.specs.State.{Sem, Queue, Region, State, noSem, noQueue, noRegion}
 use Rattle.model.specs.Answers.{Out, refuseIf}
 use Rattle.model.specs.Queues.{wordsUsed}
-use Rattle.model.specs.Regions.{lastEnd}
+use Rattle.model.specs.Regions.{lastEnd, placeOk}
 use Rattle.model.specs.Units.{unitOk}
-use Rattle.model.specs.Table.{Entry, task, sem, queue, region, hasRoom, owns, ownsTask, domainOk, attributeOk, numbersOk, placeOk, memoryOk, checkEntry, enterBy, enter, freshBy, fresh, closeBy, close}
+use Rattle.model.specs.Table.{Entry, task, sem, queue, region, owns, ownsTask, Tests, testsOf, checkEntry, enterBy, enter, freshBy, fresh, closeBy, close}
 use Rattle.model.proofs.Tests.{Tells, holds, fails, le-tells, lt-tells, eq-tells, always-tells, never-tells, and-tells, or-tells, not-tells, passes-on, stops-at}
 use Rattle.model.proofs.Units.{IsUnit, unit-tells, region-numbers-tells}
 
 -- ---- what the checks ask
--- "kind full"
-abbrev pub Room : State → Entry → Type 0
-Room s (task d) = length (s .fixed .domains) < maxTasks
-Room s (sem d a b m v) = length (s .sems) < maxSemaphores
-Room s (queue d a c v) = length (s .queues) < maxQueues
-Room s (region d a b z v) = length (s .fixed .regions) < maxRegions
-
 -- "domain not -1, not -2 and not 1 to n, or -2 for a task"
 abbrev pub Owner : ℕ → ℤ → Type 0
 Owner n (pos d) = (d ≢ 0) × (d ≤ n)
@@ -44,51 +37,43 @@ TaskOwner n (pos d) = (d ≢ 0) × (d ≤ n)
 TaskOwner n (negsuc zero) = Unit
 TaskOwner n (negsuc (suc k)) = ⊥
 
-abbrev pub Owned : ℕ → Entry → Type 0
-Owned n (task d) = TaskOwner n d
-Owned n (sem d a b m v) = Owner n d
-Owned n (queue d a c v) = Owner n d
-Owned n (region d a b z v) = Owner n d
-
 -- "semaphore and queue attributes other than 0; region attribute bits other than 1 (no-write) and 4 (execute)"
-abbrev pub Attribute : Entry → Type 0
-Attribute (task d) = Unit
-Attribute (sem d a b m v) = a ≡ 0
-Attribute (queue d a c v) = a ≡ 0
-Attribute (region d a b z v) = (((a ≡ 0) ⊎ (a ≡ 1)) ⊎ (a ≡ 4)) ⊎ (a ≡ 5)
+abbrev pub RegionAttribute : ℕ → Type 0
+RegionAttribute a = (((a ≡ 0) ⊎ (a ≡ 1)) ⊎ (a ≡ 4)) ⊎ (a ≡ 5)
 
--- "1 <= max <= 65,535 and 0 <= start <= max"; a queue's capacity within its limit; "region size at least 1 and base + size at most 2^32", both multiples of the unit
-abbrev pub Numbers : State → Entry → Type 0
-Numbers s (task d) = Unit
-Numbers s (sem d a b m v) = ((1 ≤ m) × (m ≤ maxCount)) × (b ≤ m)
-Numbers s (queue d a c v) = c ≤ maxCapacity
-Numbers s (region d a b z v) = ((1 ≤ z) × (b + z ≤ addressEnd)) × ((s .fixed .unit ∣ b) × (s .fixed .unit ∣ z))
+-- "1 <= max <= 65,535 and 0 <= start <= max"; "region size at least 1 and base + size at most 2^32", both multiples of the unit
+abbrev pub Counts : ℕ → ℕ → Type 0
+Counts start max = ((1 ≤ max) × (max ≤ maxCount)) × (start ≤ max)
+
+abbrev pub Area : ℕ → ℕ → ℕ → Type 0
+Area unit base size = ((1 ≤ size) × (base + size ≤ addressEnd)) × ((unit ∣ base) × (unit ∣ size))
 
 -- "region starting below the end of the region entered before it"
-abbrev pub Above : State → Entry → Type 0
-Above s (task d) = Unit
-Above s (sem d a b m v) = Unit
-Above s (queue d a c v) = Unit
-Above s (region d a b z v) = (l : List Region) (r : Region) → s .fixed .regions ≡ l ++ (r ∷ []) → r .base + r .size ≤ b
+abbrev pub Above : List Region → ℕ → Type 0
+Above rs base = (l : List Region) (r : Region) → rs ≡ l ++ (r ∷ []) → r .base + r .size ≤ base
 
 -- queue words above their limit in total
 abbrev pub capacities : List Queue → ℕ
 capacities [] = 0
 capacities (q ∷ l) = q .capacity + capacities l
 
-abbrev pub Memory : State → Entry → Type 0
-Memory s (task d) = Unit
-Memory s (sem d a b m v) = Unit
-Memory s (queue d a c v) = capacities (s .queues) + c ≤ maxWords
-Memory s (region d a b z v) = Unit
+-- the facts that each check asks of an entry, by its kind
+pub record Facts : Type 1 where
+  pub room : Type 0
+  pub owned : Type 0
+  pub attribute : Type 0
+  pub numbers : Type 0
+  pub above : Type 0
+  pub memory : Type 0
+
+abbrev pub facts : State → Entry → Facts
+facts s (task d) = record { room = length (s .fixed .domains) < maxTasks; owned = TaskOwner (s .fixed .count) d; attribute = Unit; numbers = Unit; above = Unit; memory = Unit }
+facts s (sem d a b m v) = record { room = length (s .sems) < maxSemaphores; owned = Owner (s .fixed .count) d; attribute = a ≡ 0; numbers = Counts b m; above = Unit; memory = Unit }
+facts s (queue d a c v) = record { room = length (s .queues) < maxQueues; owned = Owner (s .fixed .count) d; attribute = a ≡ 0; numbers = c ≤ maxCapacity; above = Unit; memory = capacities (s .queues) + c ≤ maxWords }
+facts s (region d a b z v) =
+    record { room = length (s .fixed .regions) < maxRegions; owned = Owner (s .fixed .count) d; attribute = RegionAttribute a; numbers = Area (s .fixed .unit) b z; above = Above (s .fixed .regions) b; memory = Unit }
 
 -- ---- the tests tell these facts
-room-tells : (s : State) (e : Entry) → Tells (hasRoom s e) (Room s e)
-room-tells s (task d) = lt-tells _ maxTasks
-room-tells s (sem d a b m v) = lt-tells _ maxSemaphores
-room-tells s (queue d a c v) = lt-tells _ maxQueues
-room-tells s (region d a b z v) = lt-tells _ maxRegions
-
 owner-tells : (n : ℕ) (d : ℤ) → Tells (owns n d) (Owner n d)
 owner-tells n (pos d) = and-tells (not-tells (eq-tells d 0)) (le-tells d n)
 owner-tells n (negsuc zero) = always-tells
@@ -100,36 +85,15 @@ task-owner-tells n (pos d) = and-tells (not-tells (eq-tells d 0)) (le-tells d n)
 task-owner-tells n (negsuc zero) = always-tells
 task-owner-tells n (negsuc (suc k)) = never-tells
 
-owned-tells : (n : ℕ) (e : Entry) → Tells (domainOk n e) (Owned n e)
-owned-tells n (task d) = task-owner-tells n d
-owned-tells n (sem d a b m v) = owner-tells n d
-owned-tells n (queue d a c v) = owner-tells n d
-owned-tells n (region d a b z v) = owner-tells n d
-
-attribute-tells : (e : Entry) → Tells (attributeOk e) (Attribute e)
-attribute-tells (task d) = always-tells
-attribute-tells (sem d a b m v) = eq-tells a 0
-attribute-tells (queue d a c v) = eq-tells a 0
-attribute-tells (region d a b z v) = or-tells (or-tells (or-tells (eq-tells a 0) (eq-tells a 1)) (eq-tells a 4)) (eq-tells a 5)
-
-numbers-tells : (s : State) (e : Entry) → Tells (numbersOk s e) (Numbers s e)
-numbers-tells s (task d) = always-tells
-numbers-tells s (sem d a b m v) = and-tells (and-tells (le-tells 1 m) (le-tells m maxCount)) (le-tells b m)
-numbers-tells s (queue d a c v) = le-tells c maxCapacity
-numbers-tells s (region d a b z v) = region-numbers-tells (s .fixed .unit) b z
-
 last-end : (l : List Region) (r : Region) → lastEnd (l ++ (r ∷ [])) ≡ r .base + r .size
 last-end [] r = refl
 last-end (x ∷ []) r = refl
 last-end (x ∷ (y ∷ l)) r = last-end (y ∷ l) r
 
-above-tells : (s : State) (e : Entry) → Tells (placeOk s e) (Above s e)
-above-tells s (task d) = always-tells
-above-tells s (sem d a b m v) = always-tells
-above-tells s (queue d a c v) = always-tells
-above-tells s (region d a b z v) = record {
-  yes = λ h l r e. let k = le-tells (lastEnd (s .fixed .regions)) b .yes h in omega (arith, k, ap lastEnd e ∙ last-end l r);
-  no = λ h f. le-tells (lastEnd (s .fixed .regions)) b .no h (go (s .fixed .regions) f);
+above-tells : (rs : List Region) (b : ℕ) → Tells (placeOk rs b) (Above rs b)
+above-tells rs b = record {
+  yes = λ h l r e. let k = le-tells (lastEnd rs) b .yes h in omega (arith, k, ap lastEnd e ∙ last-end l r);
+  no = λ h f. le-tells (lastEnd rs) b .no h (go rs f);
 }
   where
     go : (rs : List Region) → ((l : List Region) (r : Region) → rs ≡ l ++ (r ∷ []) → r .base + r .size ≤ b) → lastEnd rs ≤ b
@@ -141,11 +105,43 @@ used-is : (l : List Queue) → wordsUsed l ≡ capacities l
 used-is [] = refl
 used-is (q ∷ l) = ap (λ (n : ℕ). q .capacity + n) (used-is l)
 
-memory-tells : (s : State) (e : Entry) → Tells (memoryOk s e) (Memory s e)
-memory-tells s (task d) = always-tells
-memory-tells s (sem d a b m v) = always-tells
-memory-tells s (queue d a c v) = rw (used-is (s .queues)) (le-tells (capacities (s .queues) + c) maxWords)
-memory-tells s (region d a b z v) = always-tells
+record Told (t : Tests) (f : Facts) : Type 0 where
+  room : Tells (t .hasRoom) (f .room)
+  owned : Tells (t .domainOk) (f .owned)
+  attribute : Tells (t .attributeOk) (f .attribute)
+  numbers : Tells (t .numbersOk) (f .numbers)
+  above : Tells (t .placeOk) (f .above)
+  memory : Tells (t .memoryOk) (f .memory)
+
+told : (s : State) (e : Entry) → Told (testsOf s e) (facts s e)
+told s (task d) = record { room = lt-tells _ maxTasks; owned = task-owner-tells (s .fixed .count) d; attribute = always-tells; numbers = always-tells; above = always-tells; memory = always-tells }
+told s (sem d a b m v) =
+    record {
+      room = lt-tells _ maxSemaphores;
+      owned = owner-tells (s .fixed .count) d;
+      attribute = eq-tells a 0;
+      numbers = and-tells (and-tells (le-tells 1 m) (le-tells m maxCount)) (le-tells b m);
+      above = always-tells;
+      memory = always-tells;
+    }
+told s (queue d a c v) =
+    record {
+      room = lt-tells _ maxQueues;
+      owned = owner-tells (s .fixed .count) d;
+      attribute = eq-tells a 0;
+      numbers = le-tells c maxCapacity;
+      above = always-tells;
+      memory = rw (used-is (s .queues)) (le-tells (capacities (s .queues) + c) maxWords);
+    }
+told s (region d a b z v) =
+    record {
+      room = lt-tells _ maxRegions;
+      owned = owner-tells (s .fixed .count) d;
+      attribute = or-tells (or-tells (or-tells (eq-tells a 0) (eq-tells a 1)) (eq-tells a 4)) (eq-tells a 5);
+      numbers = region-numbers-tells (s .fixed .unit) b z;
+      above = above-tells (s .fixed .regions) b;
+      memory = always-tells;
+    }
 
 -- ---- first hit wins
 module _ (s : State) (e : Entry) where
@@ -158,22 +154,22 @@ module _ (s : State) (e : Entry) where
 
   -- what is left to check after each check
   abbrev afterPlace : Option Err
-  afterPlace = refuseIf (not (memoryOk s e)) eNomem none
+  afterPlace = refuseIf (not (testsOf s e .memoryOk)) eNomem none
 
   abbrev afterNumbers : Option Err
-  afterNumbers = refuseIf (not (placeOk s e)) eObj afterPlace
+  afterNumbers = refuseIf (not (testsOf s e .placeOk)) eObj afterPlace
 
   abbrev afterAttribute : Option Err
-  afterAttribute = refuseIf (not (numbersOk s e)) ePar afterNumbers
+  afterAttribute = refuseIf (not (testsOf s e .numbersOk)) ePar afterNumbers
 
   abbrev afterDomain : Option Err
-  afterDomain = refuseIf (not (attributeOk e)) eRsatr afterAttribute
+  afterDomain = refuseIf (not (testsOf s e .attributeOk)) eRsatr afterAttribute
 
   abbrev afterRoom : Option Err
-  afterRoom = refuseIf (not (domainOk (s .fixed .count) e)) eId afterDomain
+  afterRoom = refuseIf (not (testsOf s e .domainOk)) eId afterDomain
 
   abbrev afterClosed : Option Err
-  afterClosed = refuseIf (not (hasRoom s e)) eNoid afterRoom
+  afterClosed = refuseIf (not (testsOf s e .hasRoom)) eNoid afterRoom
 
   -- "table already closed: E_CTX"
   pub enter-ctx : s .fixed .closed ≡ true → enter s e .answer .code ≡ error eCtx
@@ -184,61 +180,61 @@ module _ (s : State) (e : Entry) where
     past-ctx = ap (λ (b : Bool). refuseIf b eCtx afterClosed) o
 
     -- "kind full: E_NOID"
-    pub enter-noid : (Room s e → ⊥) → enter s e .answer .code ≡ error eNoid
-    enter-noid f = code-by eNoid (past-ctx ∙ stops-at (room-tells s e) eNoid afterRoom f)
+    pub enter-noid : (facts s e .room → ⊥) → enter s e .answer .code ≡ error eNoid
+    enter-noid f = code-by eNoid (past-ctx ∙ stops-at (told s e .room) eNoid afterRoom f)
 
-    module _ (r : Room s e) where
+    module _ (r : facts s e .room) where
       past-noid : checkEntry s e ≡ afterRoom
-      past-noid = past-ctx ∙ passes-on (room-tells s e) eNoid afterRoom r
+      past-noid = past-ctx ∙ passes-on (told s e .room) eNoid afterRoom r
 
       -- "domain not -1, not -2 and not 1 to n, or -2 for a task: E_ID"
-      pub enter-id : (Owned (s .fixed .count) e → ⊥) → enter s e .answer .code ≡ error eId
-      enter-id f = code-by eId (past-noid ∙ stops-at (owned-tells (s .fixed .count) e) eId afterDomain f)
+      pub enter-id : (facts s e .owned → ⊥) → enter s e .answer .code ≡ error eId
+      enter-id f = code-by eId (past-noid ∙ stops-at (told s e .owned) eId afterDomain f)
 
-      module _ (w : Owned (s .fixed .count) e) where
+      module _ (w : facts s e .owned) where
         past-id : checkEntry s e ≡ afterDomain
-        past-id = past-noid ∙ passes-on (owned-tells (s .fixed .count) e) eId afterDomain w
+        past-id = past-noid ∙ passes-on (told s e .owned) eId afterDomain w
 
         -- "attribute: E_RSATR"
-        pub enter-rsatr : (Attribute e → ⊥) → enter s e .answer .code ≡ error eRsatr
-        enter-rsatr f = code-by eRsatr (past-id ∙ stops-at (attribute-tells e) eRsatr afterAttribute f)
+        pub enter-rsatr : (facts s e .attribute → ⊥) → enter s e .answer .code ≡ error eRsatr
+        enter-rsatr f = code-by eRsatr (past-id ∙ stops-at (told s e .attribute) eRsatr afterAttribute f)
 
-        module _ (a : Attribute e) where
+        module _ (a : facts s e .attribute) where
           past-rsatr : checkEntry s e ≡ afterAttribute
-          past-rsatr = past-id ∙ passes-on (attribute-tells e) eRsatr afterAttribute a
+          past-rsatr = past-id ∙ passes-on (told s e .attribute) eRsatr afterAttribute a
 
           -- "numbers: E_PAR"
-          pub enter-par : (Numbers s e → ⊥) → enter s e .answer .code ≡ error ePar
-          enter-par f = code-by ePar (past-rsatr ∙ stops-at (numbers-tells s e) ePar afterNumbers f)
+          pub enter-par : (facts s e .numbers → ⊥) → enter s e .answer .code ≡ error ePar
+          enter-par f = code-by ePar (past-rsatr ∙ stops-at (told s e .numbers) ePar afterNumbers f)
 
-          module _ (n : Numbers s e) where
+          module _ (n : facts s e .numbers) where
             past-par : checkEntry s e ≡ afterNumbers
-            past-par = past-rsatr ∙ passes-on (numbers-tells s e) ePar afterNumbers n
+            past-par = past-rsatr ∙ passes-on (told s e .numbers) ePar afterNumbers n
 
             -- "region starting below the end of the region entered before it: E_OBJ"
-            pub enter-obj : (Above s e → ⊥) → enter s e .answer .code ≡ error eObj
-            enter-obj f = code-by eObj (past-par ∙ stops-at (above-tells s e) eObj afterPlace f)
+            pub enter-obj : (facts s e .above → ⊥) → enter s e .answer .code ≡ error eObj
+            enter-obj f = code-by eObj (past-par ∙ stops-at (told s e .above) eObj afterPlace f)
 
-            module _ (u : Above s e) where
+            module _ (u : facts s e .above) where
               past-obj : checkEntry s e ≡ afterPlace
-              past-obj = past-par ∙ passes-on (above-tells s e) eObj afterPlace u
+              past-obj = past-par ∙ passes-on (told s e .above) eObj afterPlace u
 
               -- queue words above their limit in total: E_NOMEM
-              pub enter-nomem : (Memory s e → ⊥) → enter s e .answer .code ≡ error eNomem
-              enter-nomem f = code-by eNomem (past-obj ∙ stops-at (memory-tells s e) eNomem none f)
+              pub enter-nomem : (facts s e .memory → ⊥) → enter s e .answer .code ≡ error eNomem
+              enter-nomem f = code-by eNomem (past-obj ∙ stops-at (told s e .memory) eNomem none f)
 
-              taken-by : Memory s e → enter s e ≡ enterBy s e none
-              taken-by m = by-check none (past-obj ∙ passes-on (memory-tells s e) eNomem none m)
+              taken-by : facts s e .memory → enter s e ≡ enterBy s e none
+              taken-by m = by-check none (past-obj ∙ passes-on (told s e .memory) eNomem none m)
 
 -- ---- what is taken
 pub record Fits (s : State) (e : Entry) : Type 0 where
   pub opened : s .fixed .closed ≡ false
-  pub room : Room s e
-  pub owned : Owned (s .fixed .count) e
-  pub attribute : Attribute e
-  pub numbers : Numbers s e
-  pub above : Above s e
-  pub memory : Memory s e
+  pub room : facts s e .room
+  pub owned : facts s e .owned
+  pub attribute : facts s e .attribute
+  pub numbers : facts s e .numbers
+  pub above : facts s e .above
+  pub memory : facts s e .memory
 
 taken : (s : State) (e : Entry) → Fits s e → enter s e ≡ enterBy s e none
 taken s e f = taken-by s e (f .opened) (f .room) (f .owned) (f .attribute) (f .numbers) (f .above) (f .memory)

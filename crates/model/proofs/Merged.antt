@@ -13,7 +13,7 @@ use Rattle.access.specs.Patterns.{pick, sameDomain}
 use Rattle.access.specs.Vectors.{sameVector}
 use Rattle.itron.specs.Codes.{Err, eCtx, eId, ePar, eObj, eMacv}
 use Rattle.model.specs.Answers.{refuseIf}
-use Rattle.model.specs.State.{Region, State}
+use Rattle.model.specs.State.{Region, State, setFixed, setRegions}
 use Rattle.model.specs.Regions.{end, touches, isEqual, inChain, allows, holds, fromHolder, judgeIn, areaOk, judge}
 use Rattle.model.specs.Verdict.{asks, verdict}
 use Rattle.model.proofs.Tests.{le-tells}
@@ -113,7 +113,7 @@ module _ (r x : Region) (j : Joined r x) where
 
 -- a table with other regions
 abbrev pub withRegions : State → List Region → State
-withRegions s rs = record { fixed = record { closed = s .fixed .closed; count = s .fixed .count; unit = s .fixed .unit; domains = s .fixed .domains; regions = rs }; waits = s .waits; sems = s .sems; queues = s .queues }
+withRegions s rs = setFixed s (setRegions (s .fixed) rs)
 
 pub count-as-one : (s : State) (before : List Region) (r x : Region) (behind : List Region) → Joined r x → (d : ℤ) (base size w : ℕ)
     → verdict (withRegions s (before ++ (r ∷ (x ∷ behind)))) d base size w ≡ verdict (withRegions s (before ++ (merged r x ∷ behind))) d base size w

@@ -9,7 +9,7 @@ use lib.IntN.{ℤ, pos, negsuc}
 use borrow.Author.Tests.{le-leb, ne-eqb}
 use Rattle.access.specs.Patterns.{pick, ordinalOf}
 use Rattle.access.proofs.Ordinals.{ordinal-user}
-use Rattle.model.specs.Calls.{no}
+use Rattle.model.specs.State.{no}
 
 -- ---- outside 1 to n
 pub outside : (z : ℤ) (n : ℕ) → ordinalOf z n ≡ 0 → not (eqb (no z) 0) && leb (no z) n ≡ false

@@ -17,7 +17,7 @@ use Rattle.model.specs.Answers.{refuseIf}
 use Rattle.model.specs.Calls.{Call, step}
 use Rattle.model.specs.Lists.{All, at}
 use Rattle.model.specs.State.{Fixed, State, domainAt}
-use Rattle.model.specs.Table.{Entry, task, sem, queue, region, hasRoom, domainOk, checkEntry, enterBy, enter, freshBy, fresh, closeBy, close}
+use Rattle.model.specs.Table.{Entry, task, sem, queue, region, testsOf, checkEntry, enterBy, enter, freshBy, fresh, closeBy, close}
 use Rattle.model.specs.Units.{unitOk}
 use Rattle.model.proofs.Answers.{Ready}
 use Rattle.model.proofs.Entries.{TaskOwner, task-owner-tells}
@@ -44,11 +44,11 @@ past : (b : Bool) (e : Err) (r : Option Err) → refuseIf b e r ≡ none → r �
 past true e r h = absurd (let z : _≡_ {A = ℕ} 0 1 = cc in omega arith)
 past false e r h = h
 
-owned : (s : State) (e : Entry) → checkEntry s e ≡ none → domainOk (s .fixed .count) e ≡ true
+owned : (s : State) (e : Entry) → checkEntry s e ≡ none → testsOf s e .domainOk ≡ true
 owned s e h =
     let h₁ = past (s .fixed .closed) eCtx _ h in
-    let h₂ = passed-by (true-tells (hasRoom s e)) eNoid _ h₁ in
-    passed-by (true-tells (domainOk (s .fixed .count) e)) eId _ (h₂ .1) .0
+    let h₂ = passed-by (true-tells (testsOf s e .hasRoom)) eNoid _ h₁ in
+    passed-by (true-tells (testsOf s e .domainOk)) eId _ (h₂ .1) .0
 
 pub owners-enter : (s : State) (e : Entry) → Owners (s .fixed) → Owners (enter s e .state .fixed)
 unfolding enter

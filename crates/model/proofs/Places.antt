@@ -8,12 +8,15 @@ use lib.IntN.{ℤ, pos, negsuc}
 use lib.ListN.{length}
 use Rattle.itron.specs.Codes.{eId}
 use Rattle.model.specs.Lists.{at, consIf}
-use Rattle.model.specs.State.{Sem, Queue, Side, onSem, receiving, sending, Place, Waiter, State, noSem, noQueue, semAt, queueAt, domainAt, sameSide, samePlace}
+use Rattle.model.specs.State.{Sem, Queue, Place, Waiter, State, noSem, noQueue, semAt, queueAt, domainAt, samePlace, no}
 use Rattle.model.specs.Waits.{waitersIn, waitersAt, standsAt}
-use Rattle.model.specs.Calls.{Kind, semaphore, queue, Op, signal, acquire, send, receive, refer, setVector, call, no, kindOf, numberIn, isRefer, step}
-use Rattle.model.proofs.Lists.{eqb-same, no-both}
-use Rattle.model.proofs.Queues.{place-of}
-use Rattle.model.proofs.Answers.{Ready, InRange, refuses, id-when}
+use Rattle.model.specs.Acts.{Act, refer}
+use Rattle.model.specs.Rooms.{Room, onObject}
+use Rattle.model.specs.Calls.{Op, call, step}
+use Rattle.model.proofs.Lists.{no-both}
+use Rattle.model.proofs.WaitQueues.{place-of, alike}
+use Rattle.model.proofs.Rooms.{is-refer}
+use Rattle.model.proofs.Answers.{Ready, facts, refuses, id-when}
 
 -- ---- the (k+1)th entry of a kind has the number k + 1
 module _ {A : Type 0} where
@@ -35,21 +38,12 @@ pub as-given : (n : ℕ) → no (pos n) ≡ n
 as-given n = refl
 
 -- a number below 0 names no object
-pub no-such-object : (s : State) (t : ℤ) (op : Op) (k : ℕ) → Ready s (no t) → numberIn op ≡ negsuc k → step s (call t op) .answer ≡ refuses eId
-no-such-object s t op k r h = id-when s t op r (λ i. none (kindOf op) (no (numberIn op)) (ap no h) i)
-  where
-    none : (a : Kind) (n : ℕ) → n ≡ 0 → InRange a n → ⊥
-    none semaphore n z i = i .0 z
-    none queue n z i = i .0 z
+pub no-such-object : (s : State) (t : ℤ) (op : Op) (k : ℕ) → Ready s (no t) → facts s op .number ≡ negsuc k → step s (call t op) .answer ≡ refuses eId
+no-such-object s t op k r h = id-when s t op r (λ i. i .0 (ap no h))
 
--- what counts as a refer (isRefer) is a refer
-pub refer-only : (op : Op) → isRefer op ≡ true → (k : Kind) × ((n : ℤ) × (op ≡ refer k n))
-refer-only (signal n) h = absurd (no-both h refl)
-refer-only (acquire p n) h = absurd (no-both h refl)
-refer-only (send p n w) h = absurd (no-both h refl)
-refer-only (receive p n) h = absurd (no-both h refl)
-refer-only (refer k n) h = (k, (n, refl))
-refer-only (setVector k n v) h = absurd (no-both h refl)
+-- what counts as a refer (isRefer) is one: no own call and no set-vector does
+pub refers-only : {C R : Type 0} (r : Room C R) (n : ℤ) (a : Act C) → onObject r n a .isRefer ≡ true → a ≡ refer
+refers-only r n a h = is-refer a h
 
 -- ---- the wait queue of a place has those of the waiting tasks that wait there, all of them, first to last
 pub data Queued (p : Place) : List Waiter → List Waiter → Type 0 where
@@ -57,21 +51,13 @@ pub data Queued (p : Place) : List Waiter → List Waiter → Type 0 where
   here : (e : Waiter) (l q : List Waiter) → e .place ≡ p → Queued p l q → Queued p (e ∷ l) (e ∷ q)
   elsewhere : (e : Waiter) (l q : List Waiter) → e .place ≢ p → Queued p l q → Queued p (e ∷ l) q
 
-same-side : (d : Side) → sameSide d d ≡ true
-same-side onSem = refl
-same-side receiving = refl
-same-side sending = refl
-
-same-place : (p : Place) → samePlace p p ≡ true
-same-place p = rw (same-side (p .side), eqb-same (p .number))
-
 queued : (p : Place) (l : List Waiter) → Queued p l (waitersIn l p)
 queued p [] = end
 queued p (e ∷ l) = go (standsAt p e) refl (queued p l)
   where
     go : (b : Bool) → standsAt p e ≡ b → Queued p l (waitersIn l p) → Queued p (e ∷ l) (consIf b e (waitersIn l p))
     go true h i = here e l (waitersIn l p) (place-of p (e .place) h) i
-    go false h i = elsewhere e l (waitersIn l p) (λ q. no-both (ap (samePlace p) q ∙ same-place p) h) i
+    go false h i = elsewhere e l (waitersIn l p) (λ q. no-both (ap (samePlace p) q ∙ alike p) h) i
 
 pub wait-queue : (s : State) (p : Place) → Queued p (s .waits) (waitersAt s p)
 wait-queue s p = queued p (s .waits)

@@ -9,13 +9,14 @@ use lib.ListN.{length}
 use Rattle.itron.specs.Codes.{Err, ok, waiting, error}
 use Rattle.model.specs.declared.Outcome.the-variants as Outcome
 use Rattle.model.specs.Lists.{All}
-use Rattle.model.specs.State.{Place, Waiter, State, onSem, receiving, sending, place}
+use Rattle.model.specs.State.{Place, Waiter, State}
 use Rattle.model.specs.Answers.{Released, Out, outcomeOf, releasedOf, replyOf}
 use Rattle.model.specs.Waits.{waitersAt, standsAt}
-use Rattle.model.specs.Calls.{Call, step, no}
+use Rattle.model.specs.Rooms.{Asks}
+use Rattle.model.specs.Calls.{Call, step}
 use Rattle.model.specs.Conditions.{Known, Fit}
 use Rattle.model.proofs.Lists.{all-keep}
-use Rattle.model.proofs.Cover.{Covers, cover}
+use Rattle.model.proofs.Cover.{Endings, ends}
 use Rattle.model.proofs.Answers.{answers, refuses, with}
 
 -- ---- what the laws of Answers say, as the program shows it
@@ -38,8 +39,8 @@ pub record Shows (rs : List Released) : Type 0 where
   pub few : length rs ≤ 1
   pub none : releasedOf rs .task ≡ 0 → rs ≡ []
 
-abbrev ShowsLaw : Call → Out → Type 0
-ShowsLaw c o = Shows (o .answer .released)
+abbrev ShowsLaw : ℕ → Asks → Out → Type 0
+ShowsLaw t x o = Shows (o .answer .released)
 
 module _ (s : State) (f : Fit s) where
   nobody : Shows []
@@ -51,23 +52,14 @@ module _ (s : State) (f : Fit s) where
   one : (p : Place) (e : Waiter) (l : List Waiter) → waitersAt s p ≡ e ∷ l → (w : ℕ) → Shows (with e w)
   one p e l h w = record { few = omega arith; none = λ z. absurd (numbered p e l h z) }
 
-  shows-cases : Covers s ShowsLaw
-  shows-cases = record {
-    refused = λ c e. nobody;
-    signalWakes = λ t n a e l h. one (place onSem (no n)) e l h 0;
-    signalCounts = λ t n a h r. nobody;
-    acquires = λ t n p a m h. nobody;
-    acquireWaits = λ t n a h. nobody;
-    sendPasses = λ t n w p a e l h. one (place receiving (no n)) e l h w;
-    sendStores = λ t n w p a h r. nobody;
-    sendWaits = λ t n w a h r. nobody;
-    receives = λ t n p a x b h r. nobody;
-    receiveRefills = λ t n p a x b e l h r. one (place sending (no n)) e l r 0;
-    receivePasses = λ t n p a e l h r. one (place sending (no n)) e l r 0;
-    receiveWaits = λ t n a h r. nobody;
-    refers = λ t n k a. nobody;
-    setsVector = λ t n k v a. nobody;
+  shows-ends : Endings s ShowsLaw
+  shows-ends = record {
+    refused = λ t x e o. nobody;
+    tells = λ t x r o. nobody;
+    gives = λ t x s′ w k v. nobody;
+    wakes = λ t x s′ p e l w h k v f. one p e l f h;
+    waits = λ t x e h c z p b v. nobody;
   }
 
   pub shows : (c : Call) → Shows (step s c .answer .released)
-  shows c = cover s ShowsLaw shows-cases c
+  shows c = ends s ShowsLaw shows-ends c

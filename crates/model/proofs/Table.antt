@@ -14,11 +14,12 @@ use Rattle.itron.specs.Codes.{Err, ok, error}
 use Rattle.model.specs.Answers.{refuseIf}
 use Rattle.model.specs.Conditions.{BufferFits, Bounded, Ascending, Whole, Spent, QueueOk, qviewOf, Sound}
 use Rattle.model.specs.Lists.{at}
-use Rattle.model.specs.Queues.{wordsUsed}
+use Rattle.model.specs.Semaphores.{newSem}
+use Rattle.model.specs.Queues.{wordsUsed, newQueue}
 use Rattle.model.specs.State.{Sem, Queue, Region, State, noSem, place}
-use Rattle.model.specs.Table.{Entry, task, sem, queue, region, hasRoom, domainOk, attributeOk, numbersOk, placeOk, memoryOk, checkEntry, newSem, newQueue, newRegion, add, enterBy, enter, emptyState, freshBy, fresh, closeBy, close}
+use Rattle.model.specs.Table.{Entry, task, sem, queue, region, testsOf, checkEntry, add, enterBy, enter, emptyState, freshBy, fresh, closeBy, close}
 use Rattle.itron.specs.Limits.{maxTasks, maxSemaphores, maxQueues, maxRegions, maxWords, maxCount, maxDomains, minUnit}
-use Rattle.model.specs.Regions.{lastEnd}
+use Rattle.model.specs.Regions.{lastEnd, newRegion}
 use Rattle.model.specs.Units.{unitOk}
 use Rattle.model.proofs.Lists.{and-right, no-both, all-snoc}
 use Rattle.model.proofs.Units.{region-numbers-tells, unit-one}
@@ -31,23 +32,23 @@ open-of : (b : Bool) (e : Err) (r : Option Err) → refuseIf b e r ≡ none → 
 open-of true e r h = absurd (let z : _≡_ {A = Bool} true false = cc in no-both {b = true} refl z)
 open-of false e r h = (refl, h)
 
--- what a taken waiter has passed
+-- what a taken entry has passed
 pub record Taken (s : State) (i : Entry) : Type 0 where
   pub opened : s .fixed .closed ≡ false
-  pub room : hasRoom s i ≡ true
-  pub numbers : numbersOk s i ≡ true
-  pub place : placeOk s i ≡ true
-  pub memory : memoryOk s i ≡ true
+  pub room : testsOf s i .hasRoom ≡ true
+  pub numbers : testsOf s i .numbersOk ≡ true
+  pub place : testsOf s i .placeOk ≡ true
+  pub memory : testsOf s i .memoryOk ≡ true
 
 pub taken : (s : State) (i : Entry) → checkEntry s i ≡ none → Taken s i
 taken s i h =
     let h₁ = open-of (s .fixed .closed) _ _ h in
-    let h₂ = pass (hasRoom s i) _ _ (h₁ .1) in
-    let h₃ = pass (domainOk (s .fixed .count) i) _ _ (h₂ .1) in
-    let h₄ = pass (attributeOk i) _ _ (h₃ .1) in
-    let h₅ = pass (numbersOk s i) _ _ (h₄ .1) in
-    let h₆ = pass (placeOk s i) _ _ (h₅ .1) in
-    let h₇ = pass (memoryOk s i) _ _ (h₆ .1) in
+    let h₂ = pass (testsOf s i .hasRoom) _ _ (h₁ .1) in
+    let h₃ = pass (testsOf s i .domainOk) _ _ (h₂ .1) in
+    let h₄ = pass (testsOf s i .attributeOk) _ _ (h₃ .1) in
+    let h₅ = pass (testsOf s i .numbersOk) _ _ (h₄ .1) in
+    let h₆ = pass (testsOf s i .placeOk) _ _ (h₅ .1) in
+    let h₇ = pass (testsOf s i .memoryOk) _ _ (h₆ .1) in
     record { opened = h₁ .0; room = h₂ .0; numbers = h₅ .0; place = h₆ .0; memory = h₇ .0 }
 
 all-of : {A : Type 0} (P : A → Type 0) (d : A) (l : List A) (x : A) → P d → P x → ((i : ℕ) → P (at d l i)) → (i : ℕ) → P (at d (l ++ (x ∷ [])) i)

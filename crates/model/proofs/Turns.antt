@@ -3,25 +3,26 @@ use mathlib.Core.Path.{_≡_, refl, sym, ap, _∙_}
 use mathlib.Core.Logic.{_⊎_, inl, inr}
 use mathlib.Core.Bool.{Bool, true, false}
 use mathlib.Core.List.{List, [], _∷_, _++_, append-assoc, append-nil}
-use Prim.Native.Nat.{ℕ, suc, _+_, _≤_}
+use mathlib.Core.Option.{Option, none, some}
+use Prim.Native.Nat.{ℕ, _+_, _≤_}
 use native.Mathlib.Nat.{add-zero}
 use native.Mathlib.Omega.{arith}
 use lib.ListN.{length, drop, length-drop}
 use lib.Seq.{drop-drop}
-use lib.IntN.{ℤ}
-use Rattle.itron.specs.Codes.{ok, waiting, error}
-use Rattle.model.proofs.Cases.{setCount, setBuffer, release, join}
-use Rattle.model.specs.Answers.{Answer, Out, say}
-use Rattle.model.specs.Calls.{Kind, semaphore, queue, Call, no, infoOf, setVectorOf, step}
-use Rattle.model.specs.History.{event, after, history, total, countIf}
-use Rattle.model.specs.Lists.{consIf}
-use Rattle.model.specs.State.{Vector, onSem, receiving, sending, Place, Waiter, State, place, samePlace, semAt, queueAt, waiter}
-use Rattle.model.specs.Waits.{standsAt, waitersAt, freed}
-use Rattle.model.specs.Turns.{servesBy, serves, tasksOf, InTurn}
+use Rattle.itron.specs.Codes.{Err, ok, waiting, error}
+use Rattle.model.specs.Lists.{consIf, total}
+use Rattle.model.specs.State.{Place, Waiter, State, setWaits, samePlace}
+use Rattle.model.specs.Answers.{Answer, Out, say, tells}
+use Rattle.model.specs.Waits.{standsAt, waitersIn, waitersAt, leave, join, freed}
+use Rattle.model.specs.Rooms.{Asks}
+use Rattle.model.specs.Calls.{Call, step}
+use Rattle.model.specs.History.{event, after, history}
+use Rattle.model.specs.Turns.{countIf, countAt, serves, tasksOf, InTurn}
 use Rattle.model.proofs.Lists.{keep-append, Distinct, cons-ne}
-use Rattle.model.proofs.Cover.{Covers, cover}
-use Rattle.model.proofs.Queues.{place-of, release-same, release-other}
-use Rattle.model.proofs.Steps.{distinct-law}
+use Rattle.model.proofs.WaitQueues.{place-of, leave-here, leave-elsewhere}
+use Rattle.model.proofs.Endings.{Vacant}
+use Rattle.model.proofs.Cover.{Endings, ends}
+use Rattle.model.proofs.Steps.{distinct-after}
 
 -- ---- one call
 abbrev Turn : State → Place → Waiter → List Waiter → State → Answer → ℕ → Type 0
@@ -29,79 +30,62 @@ Turn s p x l s′ a n =
     ((n ≡ 1) × (waitersAt s′ p ≡ l) × (tasksOf (a .released) ≡ x .task ∷ []))
     ⊎ ((n ≡ 0) × ((m : List Waiter) × (waitersAt s′ p ≡ (x ∷ l) ++ m)))
 
-abbrev TurnLaw : State → Place → Call → Out → Type 0
-TurnLaw s p c o = (x : Waiter) (l : List Waiter) → waitersAt s p ≡ x ∷ l → Turn s p x l (o .state) (o .answer) (servesBy p (c .op) (o .answer .code))
+abbrev TurnLaw : State → Place → ℕ → Asks → Out → Type 0
+TurnLaw s p t y o = (x : Waiter) (l : List Waiter) → waitersAt s p ≡ x ∷ l → Turn s p x l (o .state) (o .answer) (countAt p (y .serves (o .answer .code)))
 
 module _ (s : State) (d : Distinct (s .waits)) (p : Place) where
   -- the waiters stay
   same : (s′ : State) (a : Answer) (x : Waiter) (l : List Waiter) → waitersAt s′ p ≡ waitersAt s p → waitersAt s p ≡ x ∷ l → Turn s p x l s′ a 0
   same s′ a x l e h = inr (refl, ([], e ∙ h ∙ sym (append-nil (x ∷ l))))
 
-  -- they stay, and the place served is empty
-  vacant : (s′ : State) (a : Answer) (r : Place) (x : Waiter) (l : List Waiter) → waitersAt s r ≡ [] → waitersAt s′ p ≡ waitersAt s p → waitersAt s p ≡ x ∷ l
-      → Turn s p x l s′ a (countIf (samePlace p r) 1)
-  vacant s′ a r x l z e h = go (samePlace p r) refl
+  -- they stay, and the place served, if any, is empty
+  vacant : (s′ : State) (a : Answer) (r : Option Place) (x : Waiter) (l : List Waiter) → Vacant (s .waits) r → waitersAt s′ p ≡ waitersAt s p → waitersAt s p ≡ x ∷ l → Turn s p x l s′ a (countAt p r)
+  vacant s′ a none x l z e h = same s′ a x l e h
+  vacant s′ a (some r) x l z e h = go (samePlace p r) refl
     where
-      go : (b : Bool) → samePlace p r ≡ b → Turn s p x l s′ a (countIf b 1)
+      go : (b : Bool) → samePlace p r ≡ b → Turn s p x l s′ a (countIf b)
       go true f = absurd (cons-ne h (ap (waitersAt s) (sym (place-of p r f)) ∙ z))
       go false f = same s′ a x l e h
 
   -- the first at the place served is released
   first : (s′ : State) (a : Answer) (r : Place) (e : Waiter) (k : List Waiter) (x : Waiter) (l : List Waiter) → waitersAt s r ≡ e ∷ k
-      → waitersAt s′ p ≡ waitersAt (release s (e .task)) p → tasksOf (a .released) ≡ e .task ∷ [] → waitersAt s p ≡ x ∷ l
-      → Turn s p x l s′ a (countIf (samePlace p r) 1)
+      → waitersAt s′ p ≡ waitersIn (leave (e .task) (s .waits)) p → tasksOf (a .released) ≡ e .task ∷ [] → waitersAt s p ≡ x ∷ l
+      → Turn s p x l s′ a (countIf (samePlace p r))
   first s′ a r e k x l f u g h = go (samePlace p r) refl
     where
-      go : (b : Bool) → samePlace p r ≡ b → Turn s p x l s′ a (countIf b 1)
+      go : (b : Bool) → samePlace p r ≡ b → Turn s p x l s′ a (countIf b)
       go true j =
           let z : x ∷ l ≡ e ∷ k = sym h ∙ ap (waitersAt s) (sym (place-of p r j)) ∙ f in
           let zx : x ≡ e = cc in
           let zl : k ≡ l = cc in
-          inl (refl, u ∙ release-same s p d (h ∙ z) ∙ zl, g ∙ ap (λ (y : Waiter). y .task ∷ []) (sym zx))
-      go false j = same s′ a x l (u ∙ release-other s r p d j f) h
+          inl (refl, u ∙ leave-here (s .waits) p d (h ∙ z) ∙ zl, g ∙ ap (λ (y : Waiter). y .task ∷ []) (sym zx))
+      go false j = same s′ a x l (u ∙ leave-elsewhere (s .waits) r p d j f) h
 
-  -- another joins, somewhere
-  joins : (e : Waiter) (a : Answer) (x : Waiter) (l : List Waiter) → waitersAt s p ≡ x ∷ l → Turn s p x l (join s e) a 0
+  -- another joins, somewhere, and the place served, if any, is empty
+  joins : (e : Waiter) (a : Answer) (x : Waiter) (l : List Waiter) → waitersAt s p ≡ x ∷ l → Turn s p x l (setWaits s (join e (s .waits))) a 0
   joins e a x l h = inr (refl, (consIf (standsAt p e) e [], keep-append (standsAt p) (s .waits) (e ∷ []) ∙ ap (λ (m : List Waiter). m ++ consIf (standsAt p e) e []) h))
 
-  vacant-joins : (e : Waiter) (a : Answer) (r : Place) (x : Waiter) (l : List Waiter) → waitersAt s r ≡ [] → waitersAt s p ≡ x ∷ l → Turn s p x l (join s e) a (countIf (samePlace p r) 1)
-  vacant-joins e a r x l z h = go (samePlace p r) refl
+  vacant-joins : (e : Waiter) (a : Answer) (r : Option Place) (x : Waiter) (l : List Waiter) → Vacant (s .waits) r → waitersAt s p ≡ x ∷ l → Turn s p x l (setWaits s (join e (s .waits))) a (countAt p r)
+  vacant-joins e a none x l z h = joins e a x l h
+  vacant-joins e a (some r) x l z h = go (samePlace p r) refl
     where
-      go : (b : Bool) → samePlace p r ≡ b → Turn s p x l (join s e) a (countIf b 1)
+      go : (b : Bool) → samePlace p r ≡ b → Turn s p x l (setWaits s (join e (s .waits))) a (countIf b)
       go true f = absurd (cons-ne h (ap (waitersAt s) (sym (place-of p r f)) ∙ z))
       go false f = joins e a x l h
 
-  turn-cases : Covers s (TurnLaw s p)
-  turn-cases = record {
-    refused = λ c e x l. same s (say (error e) 0 []) x l refl;
-    signalWakes = λ t n a e k f x l. first (release s (e .task)) (say ok 0 (freed e 0)) (place onSem (no n)) e k x l f refl refl;
-    signalCounts = λ t n a f r x l. vacant (setCount s (no n) (suc (semAt s (no n) .count))) (say ok 0 []) (place onSem (no n)) x l f refl;
-    acquires = λ t n w a j f x l. same (setCount s (no n) j) (say ok 0 []) x l refl;
-    acquireWaits = λ t n a f. joins (waiter (no t) onSem (no n) 0) (say waiting 0 []);
-    sendPasses = λ t n w y a e k f x l. first (release s (e .task)) (say ok 0 (freed e w)) (place receiving (no n)) e k x l f refl refl;
-    sendStores = λ t n w y a f r x l. vacant (setBuffer s (no n) (queueAt s (no n) .buffer ++ (w ∷ []))) (say ok 0 []) (place receiving (no n)) x l f refl;
-    sendWaits = λ t n w a f r x l. vacant-joins (waiter (no t) sending (no n) w) (say waiting 0 []) (place receiving (no n)) x l f;
-    receives = λ t n y a z b f r x l. vacant (setBuffer s (no n) b) (say ok z []) (place sending (no n)) x l r refl;
-    receiveRefills = λ t n y a z b e k f r x l. first (release (setBuffer s (no n) (b ++ (e .word ∷ []))) (e .task)) (say ok z (freed e 0)) (place sending (no n)) e k x l r refl refl;
-    receivePasses = λ t n y a e k f r x l. first (release s (e .task)) (say ok (e .word) (freed e 0)) (place sending (no n)) e k x l r refl refl;
-    receiveWaits = λ t n a f r. joins (waiter (no t) receiving (no n) 0) (say waiting 0 []);
-    refers = λ t n m a x l. same s (record { code = ok; word = 0; released = []; info = infoOf s m (no n) }) x l refl;
-    setsVector = λ t n m v a x l. same (setVectorOf s m (no n) v) (say ok 0 []) x l (vec m n v);
+  turn-ends : Endings s (TurnLaw s p)
+  turn-ends = record {
+    refused = λ t y e o x l h. rw o (same s (say (error e) 0 []) x l refl h);
+    tells = λ t y r o x l h. rw o (same s (tells (y .told s)) x l refl h);
+    gives = λ t y s′ w k v x l h. vacant s′ (say ok w []) (y .serves ok) x l v (ap (λ (ws : List Waiter). waitersIn ws p) (k .waits)) h;
+    wakes = λ t y s′ r e m w z k v f x l h. rw v (first s′ (say ok w (freed e z)) r e m x l f (ap (λ (ws : List Waiter). waitersIn ws p) (k .waits)) refl h);
+    waits = λ t y e c u z f b v x l h. vacant-joins e (say waiting 0 []) (y .serves waiting) x l v h;
   }
-    where
-      vec : (m : Kind) (n : ℤ) (v : Vector) → waitersAt (setVectorOf s m (no n) v) p ≡ waitersAt s p
-      vec semaphore n v = refl
-      vec queue n v = refl
 
   pub turn-law : (c : Call) (x : Waiter) (l : List Waiter) → waitersAt s p ≡ x ∷ l → Turn s p x l (step s c .state) (step s c .answer) (serves p (event s c))
-  turn-law c = cover s (TurnLaw s p) turn-cases c
+  turn-law c = ends s (TurnLaw s p) turn-ends c
 
 -- ---- the whole list
-pub distinct-after : (s : State) → Distinct (s .waits) → (cs : List Call) → Distinct (after s cs .waits)
-unfolding after
-distinct-after s d [] = d
-distinct-after s d (c ∷ cs) = distinct-law (after s cs) (distinct-after s d cs) c
-
 module _ (s : State) (d : Distinct (s .waits)) (p : Place) (e : Waiter) (ahead behind : List Waiter) (h : waitersAt s p ≡ ahead ++ e ∷ behind) where
   abbrev Stands : State → ℕ → Type 0
   Stands s′ k = (m : List Waiter) × (waitersAt s′ p ≡ drop k ahead ++ e ∷ m)

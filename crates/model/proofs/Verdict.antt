@@ -13,7 +13,7 @@ use Rattle.itron.specs.Codes.{eCtx, eId, ePar, eNoexs, eObj, eMacv}
 use Rattle.itron.specs.Limits.{addressEnd}
 use Rattle.model.specs.Answers.{refuseIf}
 use Rattle.model.specs.Lists.{All}
-use Rattle.model.specs.State.{Region, State}
+use Rattle.model.specs.State.{Region, State, setFixed, setUnit}
 use Rattle.model.specs.Regions.{mayRead, grants, allows, holds, inChain, fromHolder, judgeIn, areaOk, judge}
 use Rattle.model.specs.Verdict.{asks, verdict}
 use Rattle.model.proofs.Lists.{no-both}
@@ -230,7 +230,7 @@ ok-everywhere s d base size w h a l k =
 
 -- "The unit restricts entries, not the verdict's area": a table with another unit and the same regions has the same verdicts
 abbrev withUnit : State → ℕ → State
-withUnit s u = record { fixed = record { closed = s .fixed .closed; count = s .fixed .count; unit = u; domains = s .fixed .domains; regions = s .fixed .regions }; waits = s .waits; sems = s .sems; queues = s .queues }
+withUnit s u = setFixed s (setUnit (s .fixed) u)
 
 pub any-unit : (s : State) (u : ℕ) (d : ℤ) (base size w : ℕ) → verdict (withUnit s u) d base size w ≡ verdict s d base size w
 unfolding verdict

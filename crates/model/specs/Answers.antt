@@ -6,18 +6,11 @@ use Prim.Native.Nat.{ℕ}
 use lib.IntN.{ℤ}
 use Rattle.itron.specs.Codes.{Err, Code, ok, waiting, error, okNumber, numberOf}
 pub use Rattle.model.specs.declared.Released.{Released}
+pub use Rattle.model.specs.declared.Info.{Info}
 pub use Rattle.model.specs.declared.Reply.{Reply}
 use Rattle.model.specs.declared.Outcome.{Outcome}
 use Rattle.model.specs.declared.Outcome.the-variants as Outcome
 use Rattle.model.specs.State.{Vector, State, Waiter, zeroVector}
-
--- what a refer tells: the first who waits on the semaphore or to send to the queue, the first who waits to receive (0 if none),
--- the count or the number of buffered words, the vector
-pub record Info : Type 0 where
-  pub waiter : ℕ
-  pub receiver : ℕ
-  pub count : ℕ
-  pub vector : Vector
 
 -- an answer carries a code or "waiting", the word if any, and the released tasks with their words
 pub record Answer : Type 0 where
@@ -35,7 +28,7 @@ abbrev pub out : Answer → State → Out
 out a s = record { answer = a; state = s }
 
 abbrev pub noInfo : Info
-noInfo = record { waiter = 0; receiver = 0; count = 0; vector = zeroVector }
+noInfo = record { first = 0; second = 0; amount = 0; vector = zeroVector }
 
 abbrev pub say : Code → ℕ → List Released → Answer
 say c w rs = record { code = c; word = w; released = rs; info = noInfo }
@@ -51,6 +44,26 @@ done s = out (say ok 0 []) s
 abbrev pub refuseIf : Bool → Err → Option Err → Option Err
 refuseIf true e r = some e
 refuseIf false e r = r
+
+-- a refer tells, and gives back the state it got
+abbrev pub tells : Info → Answer
+tells i = record { code = ok; word = 0; released = []; info = i }
+
+-- ---- what goes by an answer of E_OK alone, what by "waiting" alone, and what by either
+abbrev pub whenOk {ℓ} : {A : Type ℓ} → A → A → Code → A
+whenOk x y ok = y
+whenOk x y waiting = x
+whenOk x y (error e) = x
+
+abbrev pub whenWaiting {ℓ} : {A : Type ℓ} → A → A → Code → A
+whenWaiting x y ok = x
+whenWaiting x y waiting = y
+whenWaiting x y (error e) = x
+
+abbrev pub whenAccepted {ℓ} : {A : Type ℓ} → A → A → Code → A
+whenAccepted x y ok = y
+whenAccepted x y waiting = y
+whenAccepted x y (error e) = x
 
 -- ---- what an effect on the waiting tasks and the records of one kind gives
 pub record Effect (R : Type 0) : Type 0 where

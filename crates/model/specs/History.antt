@@ -1,15 +1,15 @@
--- Histories: the list of calls from a state on, what each answered, and what is counted in them. Definitions only.
-use mathlib.Core.Bool.{Bool, true, false, _&&_}
+-- Histories: the list of calls from a state on, what each answered, and what one object sees of them. Definitions only.
+use mathlib.Core.Bool.{Bool, true, false}
 use mathlib.Core.List.{List, [], _∷_, _++_, map}
-use Prim.Native.Nat.{ℕ, _+_}
-use lib.ListN.{length}
-use lib.Dec.{eqb}
-use Rattle.itron.specs.Codes.{Code, ok, waiting, error}
-use Rattle.model.specs.Lists.{keep, only}
-use Rattle.model.specs.State.{Vector, onSem, receiving, sending, Waiter, State, waiter}
-use Rattle.model.specs.Answers.{Released, Answer}
+use mathlib.Core.Option.{Option, none, some}
+use Prim.Native.Nat.{ℕ}
+use Rattle.itron.specs.Codes.{Code}
+use Rattle.model.specs.Lists.{keep}
+use Rattle.model.specs.State.{Vector, Waiter, State, no}
+use Rattle.model.specs.Answers.{Released, Answer, whenOk, whenWaiting}
 use Rattle.model.specs.Waits.{isOther}
-use Rattle.model.specs.Calls.{Kind, semaphore, queue, Op, signal, acquire, send, receive, refer, setVector, Call, no, vectorAt, step}
+use Rattle.model.specs.Acts.{Act, own, refer, setVector, ofOwn}
+use Rattle.model.specs.Calls.{Op, Call, asks, step}
 
 -- an event: the state that a call got, the call, and its answer
 pub record Event : Type 0 where
@@ -33,114 +33,9 @@ unfoldable pub history : State → List Call → History
 history s [] = []
 history s (c ∷ cs) = event (after s cs) c ∷ history s cs
 
--- ---- adding up
-abbrev pub words : (Event → List ℕ) → History → List ℕ
-words f [] = []
-words f (e ∷ h) = words f h ++ f e
-
-abbrev pub total : (Event → ℕ) → History → ℕ
-total f [] = 0
-total f (e ∷ h) = total f h + f e
-
--- a claim about every event and the history before it
-abbrev pub Each : (Event → History → Type 0) → History → Type 0
-Each P [] = Unit
-Each P (e ∷ h) = P e h × Each P h
-
-abbrev pub countIf : Bool → ℕ → ℕ
-countIf true n = n
-countIf false n = 0
-
--- ---- sends on queue q
-abbrev pub sentTo : ℕ → Op → List ℕ
-sentTo q (signal i) = []
-sentTo q (acquire p i) = []
-sentTo q (send p n w) = only (eqb q (no n)) (w ∷ [])
-sentTo q (receive p n) = []
-sentTo q (refer k n) = []
-sentTo q (setVector k n v) = []
-
--- a send of any kind is accepted when it answers E_OK or "waiting"
-abbrev pub sentBy : ℕ → Op → Code → List ℕ
-sentBy q op ok = sentTo q op
-sentBy q op waiting = sentTo q op
-sentBy q op (error e) = []
-
--- the word of an accepted send on queue q
-abbrev pub sent : ℕ → Event → List ℕ
-sent q e = sentBy q (e .call .op) (e .answer .code)
-
--- ---- words handed out of queue q
-abbrev pub wordsOf : List Released → List ℕ
-wordsOf rs = map (λ (r : Released). r .word) rs
-
--- a word is handed out in a receive's E_OK or with a receiver that a send releases
-abbrev pub handedIn : ℕ → Op → Answer → List ℕ
-handedIn q (signal i) a = []
-handedIn q (acquire p i) a = []
-handedIn q (send p n w) a = only (eqb q (no n)) (wordsOf (a .released))
-handedIn q (receive p n) a = only (eqb q (no n)) (a .word ∷ [])
-handedIn q (refer k n) a = []
-handedIn q (setVector k n v) a = []
-
-abbrev pub handedBy : ℕ → Op → Answer → Code → List ℕ
-handedBy q op a ok = handedIn q op a
-handedBy q op a waiting = []
-handedBy q op a (error e) = []
-
-abbrev pub handed : ℕ → Event → List ℕ
-handed q e = handedBy q (e .call .op) (e .answer) (e .answer .code)
-
--- ---- semaphore i: a signal is accepted when it answers E_OK
-abbrev pub signalIn : ℕ → Op → ℕ
-signalIn i (signal n) = countIf (eqb i (no n)) 1
-signalIn i (acquire p n) = 0
-signalIn i (send p n w) = 0
-signalIn i (receive p n) = 0
-signalIn i (refer k n) = 0
-signalIn i (setVector k n v) = 0
-
-abbrev pub signalBy : ℕ → Op → Code → ℕ
-signalBy i op ok = signalIn i op
-signalBy i op waiting = 0
-signalBy i op (error e) = 0
-
-abbrev pub signals : ℕ → Event → ℕ
-signals i e = signalBy i (e .call .op) (e .answer .code)
-
--- a grant is a poll or wait answered E_OK, or a release by a signal
-abbrev pub grantIn : ℕ → Op → Answer → ℕ
-grantIn i (signal n) a = countIf (eqb i (no n)) (length (a .released))
-grantIn i (acquire p n) a = countIf (eqb i (no n)) 1
-grantIn i (send p n w) a = 0
-grantIn i (receive p n) a = 0
-grantIn i (refer k n) a = 0
-grantIn i (setVector k n v) a = 0
-
-abbrev pub grantBy : ℕ → Op → Answer → Code → ℕ
-grantBy i op a ok = grantIn i op a
-grantBy i op a waiting = 0
-grantBy i op a (error e) = 0
-
-abbrev pub grants : ℕ → Event → ℕ
-grants i e = grantBy i (e .call .op) (e .answer) (e .answer .code)
-
 -- ---- waits: the one that a call which answers "waiting" begins
-abbrev pub waitOf : ℕ → Op → List Waiter
-waitOf t (signal n) = []
-waitOf t (acquire p n) = waiter t onSem (no n) 0 ∷ []
-waitOf t (send p n w) = waiter t sending (no n) w ∷ []
-waitOf t (receive p n) = waiter t receiving (no n) 0 ∷ []
-waitOf t (refer k n) = []
-waitOf t (setVector k n v) = []
-
-abbrev pub joinedBy : ℕ → Op → Code → List Waiter
-joinedBy t op ok = []
-joinedBy t op waiting = waitOf t op
-joinedBy t op (error e) = []
-
 abbrev pub joined : Event → List Waiter
-joined e = joinedBy (no (e .call .caller)) (e .call .op) (e .answer .code)
+joined e = whenWaiting [] (asks (e .call .op) .begins (no (e .call .caller))) (e .answer .code)
 
 -- the list without the tasks that an answer shows released
 abbrev pub without : List Released → List Waiter → List Waiter
@@ -152,31 +47,35 @@ abbrev pub pending : History → List Waiter
 pending [] = []
 pending (e ∷ h) = without (e .answer .released) (pending h) ++ joined e
 
--- ---- vectors: the one of the last accepted set-vector on an object, or else its entry's
-abbrev pub sameKind : Kind → Kind → Bool
-sameKind semaphore semaphore = true
-sameKind semaphore queue = false
-sameKind queue semaphore = false
-sameKind queue queue = true
+-- ---- a history as one object sees it: of each call who made it, what was asked of this object (none where the call was on another), and the answer
+pub record Made (C : Type 0) : Type 0 where
+  pub caller : ℕ
+  pub asked : Option (Act C)
+  pub answer : Answer
 
-abbrev pub either : Bool → Vector → Vector → Vector
-either true v w = v
-either false v w = w
+module _ {C : Type 0} where
+  abbrev pub seenBy : (Op → Option (Act C)) → Event → Made C
+  seenBy f e = record { caller = no (e .call .caller); asked = f (e .call .op); answer = e .answer }
 
-abbrev pub vectorIn : Kind → ℕ → Op → Vector → Vector
-vectorIn k n (signal m) v = v
-vectorIn k n (acquire p m) v = v
-vectorIn k n (send p m w) v = v
-vectorIn k n (receive p m) v = v
-vectorIn k n (refer k′ m) v = v
-vectorIn k n (setVector k′ m w) v = either (sameKind k k′ && eqb n (no m)) w v
+  -- what a call on an object of this kind asks of the object in question, by whether it is the one that the call names
+  abbrev pub askedIf : Bool → Act C → Option (Act C)
+  askedIf true a = some a
+  askedIf false a = none
 
--- a set-vector is accepted when it answers E_OK
-abbrev pub vectorBy : Kind → ℕ → Op → Code → Vector → Vector
-vectorBy k n op ok v = vectorIn k n op v
-vectorBy k n op waiting v = v
-vectorBy k n op (error e) v = v
+  abbrev pub ofAsked {ℓ} : {A : Type ℓ} → A → (C → A) → Option (Act C) → A
+  ofAsked x f none = x
+  ofAsked x f (some a) = ofOwn x f a
 
-abbrev pub vectorSince : State → Kind → ℕ → History → Vector
-vectorSince s k n [] = vectorAt s k n
-vectorSince s k n (e ∷ h) = vectorBy k n (e .call .op) (e .answer .code) (vectorSince s k n h)
+  -- the object's vector after these calls: that of the last set-vector on it answered E_OK, or else the one that it had
+  abbrev pub vectorIn : Act C → Vector → Vector
+  vectorIn (own c) v = v
+  vectorIn refer v = v
+  vectorIn (setVector w) v = w
+
+  abbrev pub vectorBy : Option (Act C) → Code → Vector → Vector
+  vectorBy none k v = v
+  vectorBy (some a) k v = whenOk v (vectorIn a v) k
+
+  abbrev pub vectorSince : Vector → List (Made C) → Vector
+  vectorSince v [] = v
+  vectorSince v (m ∷ h) = vectorBy (m .asked) (m .answer .code) (vectorSince v h)

@@ -2,6 +2,8 @@ pub mod Lists
 pub mod State
 pub mod Answers
 pub mod Waits
+pub mod Acts
+pub mod Rooms
 pub mod Semaphores
 pub mod Queues
 pub mod Units
@@ -11,5 +13,7 @@ pub mod Verdict
 pub mod Calls
 pub mod Conditions
 pub mod History
+pub mod SemaphoreClaims
+pub mod QueueClaims
 pub mod Demand3
 pub mod Turns

@@ -1,7 +1,7 @@
 -- Lists whose elements are numbered from 1, and choosing from lists. Definitions only.
 use mathlib.Core.Bool.{Bool, true, false, _||_}
-use mathlib.Core.List.{List, [], _∷_, map}
-use Prim.Native.Nat.{ℕ, zero, suc}
+use mathlib.Core.List.{List, [], _∷_, _++_, map}
+use Prim.Native.Nat.{ℕ, zero, suc, _+_}
 use lib.ListN.{getD, set}
 
 module _ {A : Type 0} where
@@ -44,3 +44,16 @@ module _ {A : Type 0} where
   abbrev pub All : (A → Type 0) → List A → Type 0
   All P [] = Unit
   All P (x ∷ l) = P x × All P l
+
+  -- ---- of a list whose newest element stands first: the words of all, the total, and a claim about every element and what was before it
+  abbrev pub words : (A → List ℕ) → List A → List ℕ
+  words f [] = []
+  words f (x ∷ l) = words f l ++ f x
+
+  abbrev pub total : (A → ℕ) → List A → ℕ
+  total f [] = 0
+  total f (x ∷ l) = total f l + f x
+
+  abbrev pub Each : (A → List A → Type 0) → List A → Type 0
+  Each P [] = Unit
+  Each P (x ∷ l) = P x l × Each P l

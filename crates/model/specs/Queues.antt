@@ -1,14 +1,54 @@
--- Data queues: their entries and what each call on one does (document 01). Definitions only.
+-- Data queues: their calls, their entries and what each call on one does (document 01). Definitions only.
 use mathlib.Core.Bool.{Bool, true, false}
 use mathlib.Core.List.{List, [], _∷_, _++_}
+use mathlib.Core.Option.{Option, none, some}
 use Prim.Native.Nat.{ℕ, _+_}
 use lib.Dec.{eqb, leb, ltb}
+use lib.IntN.{ℤ}
 use lib.ListN.{length}
-use Rattle.itron.specs.Limits.{maxCapacity, maxWords}
+use Rattle.access.specs.Vectors.{resolved}
+use Rattle.access.specs.declared.vector.Choice.{Choice}
+use Rattle.access.specs.declared.vector.Operation.{Operation}
+use Rattle.access.specs.declared.vector.Operation.the-variants.{Normal1, Normal2}
+use Rattle.itron.specs.Codes.{Code}
+use Rattle.itron.specs.Limits.{maxCapacity, maxQueues, maxWords}
+pub use Rattle.model.specs.declared.dtq.QueueCall.{QueueCall}
+pub use Rattle.model.specs.declared.dtq.QueueCall.the-variants.{Send as send, Receive as receive}
+use Rattle.model.specs.declared.dtq.QueueRequest.{QueueRequest}
+use Rattle.model.specs.declared.dtq.QueueRequest.the-variants as Request
 use Rattle.model.specs.Lists.{at, put}
-use Rattle.model.specs.State.{Vector, Queue, Waiter, receiving, sending, place, waiter, noQueue}
-use Rattle.model.specs.Answers.{Effect, Info}
+use Rattle.model.specs.State.{Vector, Queue, Waiter, Place, State, receiving, sending, place, waiter, noQueue, setWaits, setQueues}
+use Rattle.model.specs.Answers.{Effect, Info, whenOk, whenAccepted}
 use Rattle.model.specs.Waits.{Patience, waitersIn, firstTask, wakes, orWaits, gives}
+use Rattle.model.specs.Acts.{Act, own, refer, setVector, Slots, clear}
+use Rattle.model.specs.Rooms.{Room}
+
+-- ---- the calls: both sends, of a word, and both receives
+-- both sends are normal operation 1; both receives are normal operation 2
+abbrev pub operation : QueueCall → Operation
+operation (send p w) = Normal1
+operation (receive p) = Normal2
+
+-- besides the checks of every call there are none
+abbrev pub slots : List Waiter → List Queue → ℕ → QueueCall → Slots
+slots ws xs q c = clear
+
+-- the wait that a call of task t begins, if it answers "waiting"
+abbrev pub begins : ℕ → ℕ → QueueCall → List Waiter
+begins t q (send p w) = waiter t sending q w ∷ []
+begins t q (receive p) = waiter t receiving q 0 ∷ []
+
+-- for a receiver the accepted call of the opposite kind is a send, for a sender a receive;
+-- a send is accepted also when it answers "waiting", a receive when it answers E_OK
+abbrev pub serves : ℕ → QueueCall → Code → Option Place
+serves q (send p w) k = whenAccepted none (some (place receiving q)) k
+serves q (receive p) k = whenOk none (some (place sending q)) k
+
+-- what the program is asked for
+abbrev pub actOf : QueueRequest → Act QueueCall
+actOf (Request.Own c) = own c
+actOf Request.Refer = refer
+actOf (Request.SetVector v) = setVector v
 
 -- ---- the entry
 -- 4. queue attributes other than 0: E_RSATR
@@ -28,6 +68,10 @@ wordsUsed (q ∷ l) = q .capacity + wordsUsed l
 abbrev pub memoryOk : List Queue → ℕ → Bool
 memoryOk xs capacity = leb (wordsUsed xs + capacity) maxWords
 
+-- it starts empty
+abbrev pub newQueue : ℤ → ℕ → ℕ → Choice → Queue
+newQueue d a c v = record { domain = d; attribute = a; capacity = c; buffer = []; vector = resolved d v }
+
 -- ---- the records
 abbrev pub queueIn : List Queue → ℕ → Queue
 queueIn xs q = at noQueue xs q
@@ -46,8 +90,8 @@ sendBy ws xs t q w p (e ∷ l) room = wakes ws xs e 0 w
 sendBy ws xs t q w p [] true = gives ws (setBuffer xs q (queueIn xs q .buffer ++ (w ∷ []))) 0
 sendBy ws xs t q w p [] false = orWaits ws xs p (waiter t sending q w)
 
-abbrev pub send : List Waiter → List Queue → ℕ → ℕ → ℕ → Patience → Effect Queue
-send ws xs t q w p = sendBy ws xs t q w p (waitersIn ws (place receiving q)) (hasRoom (queueIn xs q))
+abbrev pub onSend : List Waiter → List Queue → ℕ → ℕ → ℕ → Patience → Effect Queue
+onSend ws xs t q w p = sendBy ws xs t q w p (waitersIn ws (place receiving q)) (hasRoom (queueIn xs q))
 
 -- receive: a buffered word: the oldest is handed out; if a sender waits, the first sender's word moves to the buffer's end and it is released;
 -- empty buffer with a waiting sender: its word is handed out and it is released; otherwise poll-receive gives E_TMOUT and receive waits, last
@@ -57,13 +101,34 @@ receiveBy ws xs t q p (x ∷ b) (e ∷ l) = wakes ws (setBuffer xs q (b ++ (e .w
 receiveBy ws xs t q p [] (e ∷ l) = wakes ws xs e (e .word) 0
 receiveBy ws xs t q p [] [] = orWaits ws xs p (waiter t receiving q 0)
 
-abbrev pub receive : List Waiter → List Queue → ℕ → ℕ → Patience → Effect Queue
-receive ws xs t q p = receiveBy ws xs t q p (queueIn xs q .buffer) (waitersIn ws (place sending q))
+abbrev pub onReceive : List Waiter → List Queue → ℕ → ℕ → Patience → Effect Queue
+onReceive ws xs t q p = receiveBy ws xs t q p (queueIn xs q .buffer) (waitersIn ws (place sending q))
+
+abbrev pub does : List Waiter → List Queue → ℕ → ℕ → QueueCall → Effect Queue
+does ws xs t q (send p w) = onSend ws xs t q w p
+does ws xs t q (receive p) = onReceive ws xs t q p
 
 -- refer: first waiting sender, first waiting receiver, number of buffered words, vector
-abbrev pub refer : List Waiter → List Queue → ℕ → Info
-refer ws xs q = record { waiter = firstTask (waitersIn ws (place sending q)); receiver = firstTask (waitersIn ws (place receiving q)); count = length (queueIn xs q .buffer); vector = queueIn xs q .vector }
+abbrev pub told : List Waiter → List Queue → ℕ → Info
+told ws xs q = record { first = firstTask (waitersIn ws (place sending q)); second = firstTask (waitersIn ws (place receiving q)); amount = length (queueIn xs q .buffer); vector = queueIn xs q .vector }
 
--- set-vector: all four patterns are replaced
-abbrev pub setVector : List Queue → ℕ → Vector → List Queue
-setVector xs q v = put xs q (record { domain = queueIn xs q .domain; attribute = queueIn xs q .attribute; capacity = queueIn xs q .capacity; buffer = queueIn xs q .buffer; vector = v })
+abbrev pub withVector : Queue → Vector → Queue
+withVector x v = record { domain = x .domain; attribute = x .attribute; capacity = x .capacity; buffer = x .buffer; vector = v }
+
+-- ---- the room
+abbrev pub room : Room QueueCall Queue
+room =
+    record {
+      most = maxQueues;
+      records = λ s. s .queues;
+      with = λ s ws xs. setQueues (setWaits s ws) xs;
+      nothing = noQueue;
+      vector = λ x. x .vector;
+      withVector = withVector;
+      operation = operation;
+      slots = slots;
+      does = does;
+      told = told;
+      begins = begins;
+      serves = serves;
+    }

@@ -6,7 +6,8 @@ use Prim.Native.Nat.{ℕ, _+_}
 use lib.Dec.{eqb, leb, ltb}
 use lib.IntN.{ℤ}
 use Rattle.access.specs.Patterns.{pick, sameDomain, admitted, bitAt}
-use Rattle.access.specs.Vectors.{sameVector}
+use Rattle.access.specs.Vectors.{sameVector, resolved}
+use Rattle.access.specs.declared.vector.Choice.{Choice}
 use Rattle.itron.specs.Codes.{Err, ePar, eNoexs, eObj, eMacv}
 use Rattle.itron.specs.Limits.{addressEnd}
 use Rattle.model.specs.Lists.{anyOf, beginnings}
@@ -40,6 +41,9 @@ lastEnd (r ∷ (x ∷ l)) = lastEnd (x ∷ l)
 -- 6. a region starting below the end of the region entered before it: E_OBJ
 abbrev pub placeOk : List Region → ℕ → Bool
 placeOk rs base = leb (lastEnd rs) base
+
+abbrev pub newRegion : ℤ → ℕ → ℕ → ℕ → Choice → Region
+newRegion d a b z v = record { domain = d; attribute = a; base = b; size = z; vector = resolved d v }
 
 -- ---- regions that count as one (document 02, T-09)
 -- one region ends where the next begins

@@ -1,11 +1,11 @@
 -- What the core holds (document 01, "What the core holds"). Definitions only.
-use mathlib.Core.Bool.{Bool, true, false, _&&_}
+use mathlib.Core.Bool.{Bool, _&&_}
 use mathlib.Core.List.{List, []}
 use Prim.Native.Nat.{ℕ, zero}
 use lib.Dec.{eqb}
-use lib.IntN.{ℤ, pos}
+use lib.IntN.{ℤ, pos, negsuc}
 pub use Rattle.access.specs.declared.vector.Vector.{Vector}
-pub use Rattle.model.specs.declared.Semaphore.{Semaphore as Sem}
+pub use Rattle.model.specs.declared.sem.Semaphore.{Semaphore as Sem}
 pub use Rattle.model.specs.declared.Side.{Side}
 pub use Rattle.model.specs.declared.Side.the-variants.{OnSem as onSem, Receiving as receiving, Sending as sending}
 use Rattle.access.specs.Vectors.{uniform}
@@ -53,7 +53,41 @@ pub record State : Type 0 where
   pub sems : List Sem
   pub queues : List Queue
 
+-- ---- the state with another part: the only places where a whole state is written
+abbrev pub stateWith : Fixed → State
+stateWith f = record { fixed = f; waits = []; sems = []; queues = [] }
+
+abbrev pub setFixed : State → Fixed → State
+setFixed s f = record { fixed = f; waits = s .waits; sems = s .sems; queues = s .queues }
+
+abbrev pub setWaits : State → List Waiter → State
+setWaits s ws = record { fixed = s .fixed; waits = ws; sems = s .sems; queues = s .queues }
+
+abbrev pub setSems : State → List Sem → State
+setSems s xs = record { fixed = s .fixed; waits = s .waits; sems = xs; queues = s .queues }
+
+abbrev pub setQueues : State → List Queue → State
+setQueues s xs = record { fixed = s .fixed; waits = s .waits; sems = s .sems; queues = xs }
+
+-- what is fixed, with another part
+abbrev pub setClosed : Fixed → Bool → Fixed
+setClosed f b = record { closed = b; count = f .count; unit = f .unit; domains = f .domains; regions = f .regions }
+
+abbrev pub setUnit : Fixed → ℕ → Fixed
+setUnit f u = record { closed = f .closed; count = f .count; unit = u; domains = f .domains; regions = f .regions }
+
+abbrev pub setDomains : Fixed → List ℤ → Fixed
+setDomains f ds = record { closed = f .closed; count = f .count; unit = f .unit; domains = ds; regions = f .regions }
+
+abbrev pub setRegions : Fixed → List Region → Fixed
+setRegions f rs = record { closed = f .closed; count = f .count; unit = f .unit; domains = f .domains; regions = rs }
+
 -- ---- objects by number; what has no such number is all zeros
+-- a number as it counts objects: what is not positive is 0, which numbers none
+abbrev pub no : ℤ → ℕ
+no (pos n) = n
+no (negsuc n) = zero
+
 abbrev pub zeroVector : Vector
 zeroVector = uniform 0
 
@@ -79,16 +113,13 @@ domainAt s t = at (pos zero) (s .fixed .domains) t
 abbrev pub place : Side → ℕ → Place
 place d n = record { side = d; number = n }
 
+abbrev pub sideNumber : Side → ℕ
+sideNumber onSem = 0
+sideNumber receiving = 1
+sideNumber sending = 2
+
 abbrev pub sameSide : Side → Side → Bool
-sameSide onSem onSem = true
-sameSide onSem receiving = false
-sameSide onSem sending = false
-sameSide receiving onSem = false
-sameSide receiving receiving = true
-sameSide receiving sending = false
-sameSide sending onSem = false
-sameSide sending receiving = false
-sameSide sending sending = true
+sameSide d e = eqb (sideNumber d) (sideNumber e)
 
 abbrev pub samePlace : Place → Place → Bool
 samePlace p r = sameSide (p .side) (r .side) && eqb (p .number) (r .number)

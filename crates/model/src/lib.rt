@@ -1,7 +1,12 @@
 // The words that the kernel's code, its callers and its rules share (document 01). The rules are in specs/.
 ghost use mathlib.Core.Path.{_≡_};
 ghost use Rattle.model.specs.Answers.{plain};
+use crate::dtq::QueueRequest;
+use crate::sem::SemaphoreRequest;
 use access::vector::Vector;
+
+pub mod dtq;
+pub mod sem;
 
 // What a call answers: a code, or that the caller waits.
 pub enum Outcome {
@@ -35,10 +40,23 @@ impl Reply {
     }
 }
 
-// The kinds of object that a call names by a number.
-pub enum Kind {
-    Semaphore,
-    Queue,
+// What a refer tells of an object: the first who waits on it (0 if none), of a queue the first who waits to send; the first on its
+// other side, of a queue who waits to receive; a semaphore's count, a queue's number of buffered words; its vector.
+pub struct Info {
+    pub first: usize,
+    pub second: usize,
+    pub amount: u32,
+    pub vector: Vector,
+}
+
+impl Info {
+    // What an answer has that is no refer's, or a refused one's.
+    pub const NONE: Info = Info {
+        first: 0,
+        second: 0,
+        amount: 0,
+        vector: Vector::KERNEL,
+    };
 }
 
 // Whether a call that cannot be served at once gives up or waits.
@@ -54,11 +72,8 @@ pub enum Side {
     Sending,
 }
 
-// A semaphore, as its entry gave it, with its present count and vector.
-pub struct Semaphore {
-    pub domain: i32,
-    pub attribute: u32,
-    pub max: u32,
-    pub count: u32,
-    pub vector: Vector,
+// A call's object by its kind and number, and what is asked of it.
+pub enum Request {
+    Semaphore(i32, SemaphoreRequest),
+    Queue(i32, QueueRequest),
 }

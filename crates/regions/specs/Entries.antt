@@ -3,9 +3,7 @@ use Prim.Native.Nat.{ℕ}
 use mathlib.Core.Bool.{not}
 use mathlib.Core.List.{List}
 use mathlib.Core.Option.{Option, none}
-use lib.IntN.{ℤ}
 use Rattle.itron.specs.Codes.{Err, eRsatr, ePar, eObj}
-use Rattle.access.specs.declared.vector.Vector.{Vector}
 use Rattle.model.specs.State.{Region}
 use Rattle.model.specs.Answers.{refuseIf}
 use Rattle.model.specs.Regions.{attributeOk, numbersOk, placeOk}
@@ -16,7 +14,3 @@ entryCheck unit rs attribute base size =
     refuseIf (not (attributeOk attribute)) eRsatr
     (refuseIf (not (numbersOk unit base size)) ePar
     (refuseIf (not (placeOk rs base)) eObj none))
-
--- an entry is kept as given
-abbrev pub newRegion : ℤ → ℕ → ℕ → ℕ → Vector → Region
-newRegion domain attribute base size vector = record { domain = domain; attribute = attribute; base = base; size = size; vector = vector }

@@ -9,7 +9,9 @@ ghost use Rattle.model.specs.Regions.{attributeOk, isArea, lastEnd};
 ghost use Rattle.regions.specs.View.{regionsOf};
 ghost use Rattle.regions.specs.Form.{regionsAs};
 ghost use Rattle.regions.specs.Held.{Held};
-ghost use Rattle.regions.specs.Entries.{entryCheck, newRegion};
+ghost use Rattle.access.specs.declared.vector.Choice.the-variants.{Given};
+ghost use Rattle.model.specs.Regions.{newRegion};
+ghost use Rattle.regions.specs.Entries.{entryCheck};
 use crate::flag::EXECUTABLE;
 use crate::flag::NO_WRITE;
 use crate::state::Protection;
@@ -82,7 +84,7 @@ impl Regions {
     }
 
     // The regions with one more, the last.
-    pub fn add(
+    pub(crate) fn add(
         mut self,
         domain: i32,
         attribute: u32,
@@ -91,7 +93,7 @@ impl Regions {
         vector: Vector,
     ) -> Regions
         requires { ⌜ Held self × (length (regionsOf self) < maxRegions) ⌝ }
-        ensures { λ r. ⌜ r ≡ regionsAs (self .unit) (regionsOf self ++ (newRegion domain attribute base size vector ∷ [])) ⌝ }
+        ensures { λ r. ⌜ r ≡ regionsAs (self .unit) (regionsOf self ++ (newRegion domain attribute base size (Given vector) ∷ [])) ⌝ }
     {
         let index = self.count;
         self.bases[index] = base;
@@ -104,5 +106,21 @@ impl Regions {
         self.protections[index] = protection;
         self.count = index + 1;
         self
+    }
+
+    // One region more, as given, its default vector resolved.
+    pub fn register(self, given: RegionEntry) -> Regions
+        requires { ⌜ Held self × (length (regionsOf self) < maxRegions) ⌝ }
+        ensures { λ r. ⌜ r ≡ regionsAs (self .unit) (regionsOf self ++ (newRegion (given .domain) (given .attribute) (given .base) (given .size) (given .vector) ∷ [])) ⌝ }
+    {
+        let choice = given.vector;
+        let vector = choice.resolve(given.domain);
+        self.add(
+            given.domain,
+            given.attribute,
+            given.base,
+            given.size,
+            vector,
+        )
     }
 }

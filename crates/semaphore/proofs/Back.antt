@@ -8,7 +8,7 @@ use lib.Seq.{getD-take}
 use Rattle.arrays.proofs.Pads.{pad-take, pad-set, pad-snoc}
 use Rattle.itron.specs.Limits.{maxSemaphores}
 use Rattle.model.specs.State.{noSem}
-use Rattle.model.specs.declared.Semaphore.{Semaphore}
+use Rattle.model.specs.declared.sem.Semaphore.{Semaphore}
 use Rattle.semaphore.specs.declared.state.Semaphores.{Semaphores}
 use Rattle.semaphore.specs.View.{semsOf}
 use Rattle.semaphore.specs.Form.{semsAs}

@@ -1,43 +1,43 @@
--- What the effects of the calls on a semaphore give, as the program gives it. Definitions only.
-use Prim.Native.Nat.{suc}
-use mathlib.Core.List.{List}
+-- What a request of a semaphore gives, as the program gives it. Definitions only.
+use Prim.Native.Nat.{ℕ, suc}
+use mathlib.Core.List.{List, []}
 use lib.IntN.{ℤ}
-use Rattle.model.specs.declared.Semaphore.{Semaphore}
+use Rattle.itron.specs.Codes.{ok}
+use Rattle.model.specs.declared.sem.Semaphore.{Semaphore}
+use Rattle.model.specs.declared.sem.SemaphoreCall.{SemaphoreCall}
 use Rattle.model.specs.Answers as Model
-use Rattle.model.specs.Answers.{replyOf, plain}
-use Rattle.model.specs.Semaphores.{signal, acquire}
-use Rattle.model.specs.declared.Patience.{Patience}
+use Rattle.model.specs.Answers.{noInfo, say, replyOf, plain}
+use Rattle.model.specs.Acts.{Act}
+use Rattle.model.specs.Rooms.{actOn}
+use Rattle.model.specs.Semaphores.{room}
 use Rattle.tasks.specs.declared.check.Check.{Check}
 use Rattle.tasks.specs.declared.check.Check.the-variants.{Refused, Admitted}
 use Rattle.tasks.specs.declared.state.Tasks.{Tasks}
+use Rattle.tasks.specs.declared.wait.Ended.{Ended}
 use Rattle.tasks.specs.View.{domainsOf, waitsOf}
 use Rattle.tasks.specs.Form.{tasksAs}
 use Rattle.semaphore.specs.declared.call.Effect.{Effect}
-use Rattle.semaphore.specs.declared.call.Counted.{Counted}
-use Rattle.semaphore.specs.declared.call.SemaphoreStatus.{SemaphoreStatus}
 use Rattle.semaphore.specs.declared.state.Semaphores.{Semaphores}
 use Rattle.semaphore.specs.View.{semsOf}
 use Rattle.semaphore.specs.Form.{semsAs}
 
--- of tasks with these domains
+-- the model's effect, with the tasks, which have these domains, and the semaphores in their form
 abbrev pub effectAs : List ℤ → Model.Effect Semaphore → Effect
-effectAs ds e = record { reply = replyOf (e .answer); tasks = tasksAs ds (e .waits); semaphores = semsAs (e .records) }
+effectAs ds e = record { reply = replyOf (e .answer); info = e .answer .info; tasks = tasksAs ds (e .waits); semaphores = semsAs (e .records) }
 
--- what the checks refuse, with everything as it was
+-- a refusal, with everything as it was
 abbrev pub refusedWith : Tasks → Semaphores → ℤ → Effect
-refusedWith ts ss code = record { reply = plain code 0; tasks = ts; semaphores = ss }
+refusedWith ts ss code = record { reply = plain code 0; info = noInfo; tasks = ts; semaphores = ss }
 
--- a signal, and a poll or a wait: the checks' refusal, or the model's effect
-abbrev pub signalled : Tasks → Semaphores → Check → Effect
-signalled ts ss (Refused code) = refusedWith ts ss code
-signalled ts ss (Admitted task object) = effectAs (domainsOf ts) (signal (waitsOf ts) (semsOf ss) (suc object))
+-- E_OK with a word, nobody released
+abbrev pub doneWith : Tasks → Semaphores → ℕ → Effect
+doneWith ts ss word = record { reply = replyOf (say ok word []); info = noInfo; tasks = ts; semaphores = ss }
 
-abbrev pub acquired : Tasks → Semaphores → Patience → Check → Effect
-acquired ts ss p (Refused code) = refusedWith ts ss code
-acquired ts ss p (Admitted task object) = effectAs (domainsOf ts) (acquire (waitsOf ts) (semsOf ss) (suc task) (suc object) p)
+-- an end on the tasks, with the semaphores beside it
+abbrev pub endedWith : Ended → Semaphores → Effect
+endedWith e ss = record { reply = e .reply; info = noInfo; tasks = e .tasks; semaphores = ss }
 
-abbrev pub countedOf : Model.Effect Semaphore → Counted
-countedOf e = record { reply = replyOf (e .answer); semaphores = semsAs (e .records) }
-
-abbrev pub statusOf : Model.Info → SemaphoreStatus
-statusOf i = record { waiter = i .waiter; count = i .count; vector = i .vector }
+-- what the checks refuse, or what the act does
+abbrev pub acted : Tasks → Semaphores → Act SemaphoreCall → Check → Effect
+acted ts ss a (Refused code) = refusedWith ts ss code
+acted ts ss a (Admitted task object) = effectAs (domainsOf ts) (actOn room (waitsOf ts) (semsOf ss) (suc task) (suc object) a)

@@ -4,7 +4,7 @@ use lib.ListN.{length}
 use Rattle.arrays.specs.Pad.{pad}
 use Rattle.itron.specs.Limits.{maxSemaphores}
 use Rattle.model.specs.State.{noSem}
-use Rattle.model.specs.declared.Semaphore.{Semaphore}
+use Rattle.model.specs.declared.sem.Semaphore.{Semaphore}
 use Rattle.semaphore.specs.declared.state.Semaphores.{Semaphores}
 
 unfoldable pub semsAs : List Semaphore → Semaphores

@@ -1,155 +1,185 @@
-// What the calls on a semaphore do, once their checks are passed (document 01, "Calls on an open gateway").
+// What can be asked of a semaphore, and what that does once its checks are passed (document 01, "Calls on an open gateway").
 ghost use mathlib.Core.Path.{_≡_};
-ghost use mathlib.Core.List.{[]};
 ghost use Prim.Native.Nat.{suc, _<_};
-ghost use lib.Dec.{leb};
 ghost use lib.ListN.{length};
-ghost use Rattle.model.specs.Semaphores as Model;
-ghost use Rattle.model.specs.Semaphores.{semIn, signalBy};
+ghost use Rattle.model.specs.Acts.{operationOf};
+ghost use Rattle.model.specs.Answers as Model;
+ghost use Rattle.model.specs.Semaphores.{actOf, operation, does, onSignal, onAcquire, told};
 ghost use Rattle.tasks.specs.View.{domainsOf, waitsOf};
 ghost use Rattle.tasks.specs.Held as TasksHeld;
 ghost use Rattle.tasks.specs.Checks.{Passed};
 ghost use Rattle.semaphore.specs.View.{semsOf};
 ghost use Rattle.semaphore.specs.Held.{Held};
-ghost use Rattle.semaphore.specs.Effects.{refusedWith, signalled, acquired, countedOf, statusOf};
+ghost use Rattle.semaphore.specs.Effects.{acted, effectAs, refusedWith, doneWith, endedWith};
 use crate::state::Semaphores;
-use access::vector::Vector;
+use access::vector::Operation;
 use itron::code::E_OK;
 use itron::code::E_QOVR;
+use model::Info;
 use model::Patience;
 use model::Reply;
 use model::Side;
+use model::sem::SemaphoreCall;
+use model::sem::SemaphoreRequest;
 use tasks::check::Check;
 use tasks::state::Tasks;
 use tasks::task::Wait;
+use tasks::wait::Ended;
 use tasks::wait::First;
 
-// The reply, and the tasks and the semaphores after the call.
+// What a call gives: the reply, what a refer tells, and the tasks and the semaphores after it.
 pub struct Effect {
     pub reply: Reply,
+    pub info: Info,
     pub tasks: Tasks,
     pub semaphores: Semaphores,
 }
 
-// A call's end that changes the semaphores only.
-pub(crate) struct Counted {
-    pub(crate) reply: Reply,
-    pub(crate) semaphores: Semaphores,
-}
-
-// What a refer tells: the first waiter (0 if none), the count and the vector.
-pub struct SemaphoreStatus {
-    pub waiter: usize,
-    pub count: u32,
-    pub vector: Vector,
-}
-
-impl Semaphores {
-    // At max E_QOVR, otherwise count plus 1.
-    pub(crate) fn raise(mut self, object: usize) -> Counted
-        requires { ⌜ Held self × (object < length (semsOf self)) ⌝ }
-        ensures { λ r. ⌜ r ≡ countedOf (signalBy [] (semsOf self) (suc object) [] (leb (semIn (semsOf self) (suc object) .max) (semIn (semsOf self) (suc object) .count))) ⌝ }
-    {
-        let mut semaphore = self.get(object);
-        if semaphore.count >= semaphore.max {
-            return Counted {
-                reply: Reply::plain(E_QOVR, 0),
-                semaphores: self,
-            };
-        }
-        semaphore.count = semaphore.count + 1;
-        let semaphores = self.put(object, semaphore);
-        Counted {
-            reply: Reply::plain(E_OK, 0),
-            semaphores,
-        }
+// E_OK with a word, nobody released.
+pub(crate) fn done(tasks: Tasks, semaphores: Semaphores, word: u32) -> Effect
+    ensures { λ r. ⌜ r ≡ doneWith tasks semaphores word ⌝ }
+{
+    Effect {
+        reply: Reply::plain(E_OK, word),
+        info: Info::NONE,
+        tasks,
+        semaphores,
     }
 }
 
-// What the checks refuse: its code, with everything as it was.
+// A refusal: its code, with everything as it was.
 pub(crate) fn refused(tasks: Tasks, semaphores: Semaphores, code: i32) -> Effect
     ensures { λ r. ⌜ r ≡ refusedWith tasks semaphores code ⌝ }
 {
     Effect {
         reply: Reply::plain(code, 0),
+        info: Info::NONE,
+        tasks,
+        semaphores,
+    }
+}
+
+// An end on the tasks, with the semaphores beside it.
+pub(crate) fn ended(end: Ended, semaphores: Semaphores) -> Effect
+    ensures { λ r. ⌜ r ≡ endedWith end semaphores ⌝ }
+{
+    let reply = end.reply;
+    let tasks = end.tasks;
+    Effect {
+        reply,
+        info: Info::NONE,
         tasks,
         semaphores,
     }
 }
 
 // Signal.
-pub fn signal(tasks: Tasks, semaphores: Semaphores, check: Check) -> Effect
-    requires { ⌜ TasksHeld.Held tasks × Held semaphores × Passed tasks (length (semsOf semaphores)) check ⌝ }
-    ensures { λ r. ⌜ r ≡ signalled tasks semaphores check ⌝ }
+pub(crate) fn signal(tasks: Tasks, semaphores: Semaphores, object: usize) -> Effect
+    requires { ⌜ TasksHeld.Held tasks × Held semaphores × (object < length (semsOf semaphores)) ⌝ }
+    ensures { λ r. ⌜ r ≡ effectAs (domainsOf tasks) (onSignal (waitsOf tasks) (semsOf semaphores) (suc object)) ⌝ }
 {
-    match check {
-        Check::Refused(code) => refused(tasks, semaphores, code),
-        Check::Admitted(_, object) => match tasks.first(Side::OnSem, object) {
-            First::Waiter(waiter, _) => {
-                let ended = tasks.wake(waiter, 0, 0);
-                let reply = ended.reply;
-                let woken = ended.tasks;
-                Effect {
-                    reply,
-                    tasks: woken,
-                    semaphores,
-                }
-            },
-            First::Nobody => {
-                let counted = semaphores.raise(object);
-                let reply = counted.reply;
-                let raised = counted.semaphores;
-                Effect {
-                    reply,
-                    tasks,
-                    semaphores: raised,
-                }
-            },
+    match tasks.first(Side::OnSem, object) {
+        First::Waiter(waiter, _) => ended(tasks.wake(waiter, 0, 0), semaphores),
+        First::Nobody => {
+            let mut semaphore = semaphores.get(object);
+            if semaphore.count >= semaphore.max {
+                return refused(tasks, semaphores, E_QOVR);
+            }
+            semaphore.count = semaphore.count + 1;
+            done(tasks, semaphores.put(object, semaphore), 0)
         },
     }
 }
 
 // Poll and wait.
-pub fn acquire(tasks: Tasks, semaphores: Semaphores, check: Check, patience: Patience) -> Effect
-    requires { ⌜ TasksHeld.Held tasks × Held semaphores × Passed tasks (length (semsOf semaphores)) check ⌝ }
-    ensures { λ r. ⌜ r ≡ acquired tasks semaphores patience check ⌝ }
+pub(crate) fn acquire(
+    tasks: Tasks,
+    semaphores: Semaphores,
+    task: usize,
+    object: usize,
+    patience: Patience,
+) -> Effect
+    requires { ⌜ TasksHeld.Held tasks × Held semaphores × TasksHeld.Free (domainsOf tasks) (waitsOf tasks) task × (object < length (semsOf semaphores)) ⌝ }
+    ensures { λ r. ⌜ r ≡ effectAs (domainsOf tasks) (onAcquire (waitsOf tasks) (semsOf semaphores) (suc task) (suc object) patience) ⌝ }
 {
-    match check {
-        Check::Refused(code) => refused(tasks, semaphores, code),
-        Check::Admitted(task, object) => {
-            let mut semaphore = semaphores.get(object);
-            if 0 < semaphore.count {
-                semaphore.count = semaphore.count - 1;
-                let taken = semaphores.put(object, semaphore);
-                return Effect {
-                    reply: Reply::plain(E_OK, 0),
-                    tasks,
-                    semaphores: taken,
-                };
-            }
-            let ended = tasks.or_wait(task, Wait::OnSem(object as u8), patience);
-            let reply = ended.reply;
-            let next = ended.tasks;
-            Effect {
-                reply,
-                tasks: next,
-                semaphores,
-            }
-        },
+    let mut semaphore = semaphores.get(object);
+    if 0 < semaphore.count {
+        semaphore.count = semaphore.count - 1;
+        return done(tasks, semaphores.put(object, semaphore), 0);
+    }
+    ended(
+        tasks.or_wait(task, Wait::OnSem(object as u8), patience),
+        semaphores,
+    )
+}
+
+// A semaphore's own calls.
+pub(crate) fn own(
+    tasks: Tasks,
+    semaphores: Semaphores,
+    task: usize,
+    object: usize,
+    call: SemaphoreCall,
+) -> Effect
+    requires { ⌜ TasksHeld.Held tasks × Held semaphores × TasksHeld.Free (domainsOf tasks) (waitsOf tasks) task × (object < length (semsOf semaphores)) ⌝ }
+    ensures { λ r. ⌜ r ≡ effectAs (domainsOf tasks) (does (waitsOf tasks) (semsOf semaphores) (suc task) (suc object) call) ⌝ }
+{
+    match call {
+        SemaphoreCall::Signal => signal(tasks, semaphores, object),
+        SemaphoreCall::Acquire(patience) => acquire(tasks, semaphores, task, object, patience),
     }
 }
 
 // Refer.
-pub fn refer(tasks: Tasks, semaphores: Semaphores, object: usize) -> SemaphoreStatus
+pub(crate) fn refer(tasks: Tasks, semaphores: Semaphores, object: usize) -> Effect
     requires { ⌜ TasksHeld.Held tasks × Held semaphores × (object < length (semsOf semaphores)) ⌝ }
-    ensures { λ r. ⌜ r ≡ statusOf (Model.refer (waitsOf tasks) (semsOf semaphores) (suc object)) ⌝ }
+    ensures { λ r. ⌜ r ≡ effectAs (domainsOf tasks) (Model.effect (Model.tells (told (waitsOf tasks) (semsOf semaphores) (suc object))) (waitsOf tasks) (semsOf semaphores)) ⌝ }
 {
+    let first = tasks.first_number(Side::OnSem, object);
     let semaphore = semaphores.get(object);
     let vector = semaphore.vector;
-    let waiter = tasks.first_number(Side::OnSem, object);
-    SemaphoreStatus {
-        waiter,
-        count: semaphore.count,
-        vector,
+    Effect {
+        reply: Reply::plain(E_OK, 0),
+        info: Info {
+            first,
+            second: 0,
+            amount: semaphore.count,
+            vector,
+        },
+        tasks,
+        semaphores,
+    }
+}
+
+// Which operation a request is judged as.
+pub fn operation(request: SemaphoreRequest) -> Operation
+    ensures { λ r. ⌜ r ≡ operationOf operation (actOf request) ⌝ }
+{
+    match request {
+        SemaphoreRequest::Own(call) => match call {
+            SemaphoreCall::Signal => Operation::Normal1,
+            SemaphoreCall::Acquire(_) => Operation::Normal2,
+        },
+        SemaphoreRequest::Refer => Operation::Reference,
+        SemaphoreRequest::SetVector(_) => Operation::Management,
+    }
+}
+
+// What a request does, by what its checks found.
+pub fn act(tasks: Tasks, semaphores: Semaphores, check: Check, request: SemaphoreRequest) -> Effect
+    requires { ⌜ TasksHeld.Held tasks × Held semaphores × Passed tasks (length (semsOf semaphores)) check ⌝ }
+    ensures { λ r. ⌜ r ≡ acted tasks semaphores (actOf request) check ⌝ }
+{
+    match check {
+        Check::Refused(code) => refused(tasks, semaphores, code),
+        Check::Admitted(task, object) => match request {
+            SemaphoreRequest::Own(call) => own(tasks, semaphores, task, object, call),
+            SemaphoreRequest::Refer => refer(tasks, semaphores, object),
+            SemaphoreRequest::SetVector(vector) => done(
+                tasks,
+                semaphores.set_vector(object, vector),
+                0,
+            ),
+        },
     }
 }

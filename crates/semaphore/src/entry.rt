@@ -1,12 +1,22 @@
 // The entry of a semaphore (document 01, "Building the table").
 ghost use mathlib.Core.Path.{_≡_};
+ghost use mathlib.Core.List.{[], _∷_, _++_};
+ghost use Prim.Native.Nat.{_<_};
+ghost use lib.ListN.{length};
+ghost use Rattle.itron.specs.Limits.{maxSemaphores};
 ghost use Rattle.model.specs.Answers.{resultOf};
+ghost use Rattle.model.specs.Semaphores.{newSem};
+ghost use Rattle.semaphore.specs.View.{semsOf};
+ghost use Rattle.semaphore.specs.Form.{semsAs};
+ghost use Rattle.semaphore.specs.Held.{Held};
 ghost use Rattle.semaphore.specs.Entries.{entryCheck};
+use crate::state::Semaphores;
 use access::vector::Choice;
 use itron::code::E_OK;
 use itron::code::E_PAR;
 use itron::code::E_RSATR;
 use itron::limit::MAX_COUNT;
+use model::sem::Semaphore;
 
 pub struct SemaphoreEntry {
     pub domain: i32,
@@ -33,4 +43,22 @@ pub fn check(attribute: u32, start: u32, max: u32) -> i32
         return E_PAR;
     }
     E_OK
+}
+
+impl Semaphores {
+    // One semaphore more, as given, its default vector resolved.
+    pub fn register(self, given: SemaphoreEntry) -> Semaphores
+        requires { ⌜ Held self × (length (semsOf self) < maxSemaphores) ⌝ }
+        ensures { λ r. ⌜ r ≡ semsAs (semsOf self ++ (newSem (given .domain) (given .attribute) (given .start) (given .max) (given .vector) ∷ [])) ⌝ }
+    {
+        let choice = given.vector;
+        let vector = choice.resolve(given.domain);
+        self.add(Semaphore {
+            domain: given.domain,
+            attribute: given.attribute,
+            max: given.max,
+            count: given.start,
+            vector,
+        })
+    }
 }

@@ -5,13 +5,18 @@ ghost use Prim.Native.Nat.{suc, _<_};
 ghost use lib.ListN.{length};
 ghost use Rattle.itron.specs.Limits.{maxSemaphores};
 ghost use Rattle.model.specs.Lists.{put};
-ghost use Rattle.model.specs.Semaphores.{semIn, setVector};
+ghost use Rattle.model.specs.State.{no};
+ghost use Rattle.model.specs.Rooms.{setVectorOf};
+ghost use Rattle.model.specs.Semaphores.{semIn, room};
+ghost use Rattle.tasks.specs.Checks.{targetIn};
 ghost use Rattle.semaphore.specs.View.{semsOf};
 ghost use Rattle.semaphore.specs.Form.{semsAs};
 ghost use Rattle.semaphore.specs.Held.{Held};
+use access::domain;
 use access::vector::Vector;
 use itron::limit::MAX_SEMAPHORES;
-use model::Semaphore;
+use model::sem::Semaphore;
+use tasks::check::Target;
 
 // The first `count` records; the others are zeros.
 pub struct Semaphores {
@@ -47,7 +52,7 @@ impl Semaphores {
     }
 
     // One semaphore more, the last.
-    pub fn add(mut self, semaphore: Semaphore) -> Semaphores
+    pub(crate) fn add(mut self, semaphore: Semaphore) -> Semaphores
         requires { ⌜ Held self × (length (semsOf self) < maxSemaphores) ⌝ }
         ensures { λ r. ⌜ r ≡ semsAs (semsOf self ++ (semaphore ∷ [])) ⌝ }
     {
@@ -88,18 +93,28 @@ impl Semaphores {
         self
     }
 
-    pub fn vector(self, object: usize) -> Vector
-        requires { ⌜ Held self × (object < length (semsOf self)) ⌝ }
-        ensures { λ r. ⌜ r ≡ semIn (semsOf self) (suc object) .vector ⌝ }
+    // Which semaphore a number names.
+    pub fn find(self, id: i32) -> Target
+        requires { ⌜ Held self ⌝ }
+        ensures { λ r. ⌜ r ≡ targetIn room (semsOf self) (no id) ⌝ }
     {
+        let ordinal = domain::ordinal(id, MAX_SEMAPHORES);
+        if ordinal == 0 {
+            return Target::OutOfRange;
+        }
+        if self.count < ordinal {
+            return Target::Missing;
+        }
+        let object = ordinal - 1;
         let semaphore = self.get(object);
-        semaphore.vector
+        let vector = semaphore.vector;
+        Target::At(object, vector)
     }
 
     // Set-vector: all four patterns are replaced.
-    pub fn set_vector(mut self, object: usize, vector: Vector) -> Semaphores
+    pub(crate) fn set_vector(mut self, object: usize, vector: Vector) -> Semaphores
         requires { ⌜ Held self × (object < length (semsOf self)) ⌝ }
-        ensures { λ r. ⌜ r ≡ semsAs (setVector (semsOf self) (suc object) vector) ⌝ }
+        ensures { λ r. ⌜ r ≡ semsAs (setVectorOf room (semsOf self) (suc object) vector) ⌝ }
     {
         let mut semaphore = self.get(object);
         semaphore.vector = vector;

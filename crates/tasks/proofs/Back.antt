@@ -10,7 +10,7 @@ use Rattle.arrays.proofs.Pads.{pad-get, pad-take, pad-length}
 use Rattle.itron.specs.Limits.{maxTasks}
 use Rattle.model.specs.State.{Waiter}
 use Rattle.model.specs.Conditions.{WaitsFit}
-use Rattle.model.proofs.Sound.{few}
+use Rattle.model.proofs.Fits.{few}
 use Rattle.tasks.specs.declared.task.Task.{Task}
 use Rattle.tasks.specs.declared.state.Tasks.{Tasks}
 use Rattle.tasks.specs.View.{noTask, waiterAt, domainOf, domainsOf, waitsOf}

@@ -11,7 +11,7 @@ use borrow.Author.Tests.{le-leb, lt-leb, ne-eqb}
 use Rattle.access.specs.Patterns.{ordinalOf}
 use Rattle.model.specs.Lists.{at}
 use Rattle.model.specs.Waits.{absent}
-use Rattle.model.specs.Calls.{no}
+use Rattle.model.specs.State.{no}
 use Rattle.model.proofs.Ordinals.{outside, within}
 use Rattle.tasks.specs.declared.task.Task.{Task}
 use Rattle.tasks.specs.declared.state.Tasks.{Tasks}

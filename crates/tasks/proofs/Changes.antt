@@ -13,7 +13,7 @@ use Rattle.itron.specs.Limits.{maxTasks}
 use Rattle.model.specs.State.{Waiter}
 use Rattle.model.specs.Waits.{absent, leave, join}
 use Rattle.model.specs.Conditions.{WaitsFit}
-use Rattle.model.proofs.Sound.{few, waits-join}
+use Rattle.model.proofs.Fits.{few, waits-join}
 use Rattle.tasks.specs.declared.task.Wait.{Wait}
 use Rattle.tasks.specs.declared.task.Wait.the-variants.{Ready, OnSem, Receiving, Sending}
 use Rattle.tasks.specs.declared.task.Task.{Task}

@@ -8,3 +8,5 @@ pub mod Waiters
 pub mod Firsts
 pub mod Callers
 pub mod Ends
+pub mod Targets
+pub mod Rooms

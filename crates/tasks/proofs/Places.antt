@@ -2,17 +2,16 @@
 use Prim.Native.Nat.{ℕ, suc}
 use native.Mathlib.Omega.{arith}
 use mathlib.Core.Path.{_≡_, refl, sym}
-use mathlib.Core.Bool.{Bool, true, false}
+use mathlib.Core.Bool.{Bool, true, false, and-false}
 use mathlib.Core.List.{[], _∷_}
-use mathlib.Core.Logic.{⊎-elim}
+use mathlib.Core.Logic.{_≢_, ⊎-elim}
 use lib.Dec.{eqb}
 use types.Run.{OneOf}
 use denote.Enum.Declared.{tagOf}
-use Rattle.model.specs.State.{place, samePlace}
+use Rattle.model.specs.State.{place, sideNumber, sameSide, samePlace}
 use Rattle.model.specs.declared.Side.{Side}
-use Rattle.model.specs.declared.Side.the-variants.{OnSem as onSem, Receiving as receiving, Sending as sending}
-use Rattle.model.proofs.Lists.{eqb-no}
-use Rattle.model.proofs.Side.{the-type as side-type}
+use Rattle.model.specs.declared.Side.the-variants.{OnSem as onSem}
+use Rattle.model.proofs.Lists.{eqb-same, eqb-no}
 use Rattle.tasks.specs.declared.task.Wait.{Wait}
 use Rattle.tasks.specs.declared.task.Wait.the-variants.{Ready, OnSem, Receiving, Sending}
 use Rattle.tasks.specs.View.{waiterOf}
@@ -24,47 +23,22 @@ three : {X : Type 0} {a b c t : ℕ} → OneOf (a ∷ b ∷ c ∷ []) t → (t �
 three h x y z = absurd (⊎-elim (λ e. x e) (⊎-elim (λ e. y e) (λ e. z e)) h)
 
 -- ---- whether it is the place with this side and this index
-abbrev Says : Bool → Side → Wait → ℕ → Type 0
-Says b d w o = b ≡ samePlace (place d (suc o)) (waiterOf 0 w .place)
+module _ (d e : Side) (o k : ℕ) where
+  pub same-side : sideNumber d ≡ sideNumber e → eqb o k ≡ samePlace (place d (suc o)) (place e (suc k))
+  same-side h = rw (h, eqb-same (sideNumber e)) (eqb-suc o k)
 
-pub on-sem : (d : Side) (w : Wait) (o k : ℕ) → OneOf (0 ∷ []) (tagOf side-type d) → w ≡ OnSem k → Says (eqb o k) d w o
-on-sem onSem w o k t e = rw e (eqb-suc o k)
-on-sem receiving w o k t e = absurd (omega arith)
-on-sem sending w o k t e = absurd (omega arith)
+  pub other-side : sideNumber d ≢ sideNumber e → false ≡ samePlace (place d (suc o)) (place e (suc k))
+  other-side h = rw (eqb-no (sideNumber d) (sideNumber e) h)
 
-pub on-sem-no : (d : Side) (w : Wait) (o : ℕ) → OneOf (0 ∷ []) (tagOf side-type d) → OneOf (0 ∷ 2 ∷ 3 ∷ []) (tagOf the-type w) → Says false d w o
-on-sem-no onSem Ready o t h = sym (eqb-no (suc o) 0 (λ e. omega arith))
-on-sem-no onSem (OnSem k) o t h = three h (λ e. omega arith) (λ e. omega arith) (λ e. omega arith)
-on-sem-no onSem (Receiving k) o t h = refl
-on-sem-no onSem (Sending k w) o t h = refl
-on-sem-no receiving w o t h = absurd (omega arith)
-on-sem-no sending w o t h = absurd (omega arith)
+-- whether a task that does this waits there
+abbrev pub placed : Side → ℕ → Wait → Bool
+placed d o w = samePlace (place d (suc o)) (waiterOf 0 w .place)
 
-pub to-receive : (d : Side) (w : Wait) (o k : ℕ) → OneOf (1 ∷ []) (tagOf side-type d) → w ≡ Receiving k → Says (eqb o k) d w o
-to-receive receiving w o k t e = rw e (eqb-suc o k)
-to-receive onSem w o k t e = absurd (omega arith)
-to-receive sending w o k t e = absurd (omega arith)
-
-pub to-receive-no : (d : Side) (w : Wait) (o : ℕ) → OneOf (1 ∷ []) (tagOf side-type d) → OneOf (0 ∷ 1 ∷ 3 ∷ []) (tagOf the-type w) → Says false d w o
-to-receive-no receiving Ready o t h = refl
-to-receive-no receiving (Receiving k) o t h = three h (λ e. omega arith) (λ e. omega arith) (λ e. omega arith)
-to-receive-no receiving (OnSem k) o t h = refl
-to-receive-no receiving (Sending k w) o t h = refl
-to-receive-no onSem w o t h = absurd (omega arith)
-to-receive-no sending w o t h = absurd (omega arith)
-
-pub to-send : (d : Side) (w : Wait) (o k x : ℕ) → OneOf (2 ∷ []) (tagOf side-type d) → w ≡ Sending k x → Says (eqb o k) d w o
-to-send sending w o k x t e = rw e (eqb-suc o k)
-to-send onSem w o k x t e = absurd (omega arith)
-to-send receiving w o k x t e = absurd (omega arith)
-
-pub to-send-no : (d : Side) (w : Wait) (o : ℕ) → OneOf (2 ∷ []) (tagOf side-type d) → OneOf (0 ∷ 1 ∷ 2 ∷ []) (tagOf the-type w) → Says false d w o
-to-send-no sending Ready o t h = refl
-to-send-no sending (Sending k w) o t h = three h (λ e. omega arith) (λ e. omega arith) (λ e. omega arith)
-to-send-no sending (OnSem k) o t h = refl
-to-send-no sending (Receiving k) o t h = refl
-to-send-no onSem w o t h = absurd (omega arith)
-to-send-no receiving w o t h = absurd (omega arith)
+pub nowhere : (d : Side) (w : Wait) (o : ℕ) → OneOf (0 ∷ []) (tagOf the-type w) → false ≡ placed d o w
+nowhere d Ready o t = sym (rw (eqb-no (suc o) 0 (λ e. omega arith)) (and-false (sameSide d onSem)))
+nowhere d (OnSem k) o t = absurd (omega arith)
+nowhere d (Receiving k) o t = absurd (omega arith)
+nowhere d (Sending k w) o t = absurd (omega arith)
 
 -- ---- its word
 pub no-word : (w : Wait) → OneOf (0 ∷ 1 ∷ 2 ∷ []) (tagOf the-type w) → 0 ≡ waiterOf 0 w .word

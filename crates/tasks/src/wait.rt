@@ -4,9 +4,8 @@ ghost use mathlib.Core.Bool.{false};
 ghost use mathlib.Core.List.{[], map};
 ghost use Prim.Native.Nat.{ℕ, suc, _<_};
 ghost use lib.ListN.{length, getD};
-ghost use Rattle.model.specs.State.{place, samePlace};
+ghost use Rattle.model.specs.State.{place, samePlace, sideNumber, no};
 ghost use Rattle.model.specs.Waits.{waitersIn, firstTask, orWaits};
-ghost use Rattle.model.specs.Calls.{no};
 ghost use Rattle.tasks.specs.View.{domainsOf, waitsOf, waiterOf, noTask};
 ghost use Rattle.tasks.specs.Held.{Held, Free, isReady};
 ghost use Rattle.tasks.specs.Ends.{firstOf, taskIn, callerOf, endedOf, wokenOf};
@@ -52,23 +51,36 @@ pub(crate) fn wait_of(entries: [Task; MAX_TASKS], index: usize) -> Wait
     task.wait
 }
 
+// A side by its number.
+pub(crate) fn side_number(side: Side) -> usize
+    ensures { λ r. ⌜ r ≡ sideNumber side ⌝ }
+{
+    match side {
+        Side::OnSem => 0,
+        Side::Receiving => 1,
+        Side::Sending => 2,
+    }
+}
+
+// Whether a place is the one with another side and index.
+pub(crate) fn is_same(side: Side, object: usize, other: Side, index: u8) -> bool
+    ensures { λ r. ⌜ r ≡ samePlace (place side (suc object)) (place other (suc index)) ⌝ }
+{
+    if side_number(side) == side_number(other) {
+        return object == index as usize;
+    }
+    false
+}
+
 // Whether a task that does this waits at a place.
 pub(crate) fn waits_at(wait: Wait, side: Side, object: usize) -> bool
     ensures { λ r. ⌜ r ≡ samePlace (place side (suc object)) (waiterOf 0 wait .place) ⌝ }
 {
-    match side {
-        Side::OnSem => match wait {
-            Wait::OnSem(k) => object == k as usize,
-            _ => false,
-        },
-        Side::Receiving => match wait {
-            Wait::Receiving(k) => object == k as usize,
-            _ => false,
-        },
-        Side::Sending => match wait {
-            Wait::Sending(k, _) => object == k as usize,
-            _ => false,
-        },
+    match wait {
+        Wait::Ready => false,
+        Wait::OnSem(k) => is_same(side, object, Side::OnSem, k),
+        Wait::Receiving(k) => is_same(side, object, Side::Receiving, k),
+        Wait::Sending(k, _) => is_same(side, object, Side::Sending, k),
     }
 }
 

@@ -1,8 +1,9 @@
 -- `call::done` meets its contract. Assumes nothing.
 use borrow.Author.Needs.{needs}
 use mathlib.Core.Path.{ap}
+use Rattle.model.specs.Answers.{noInfo}
 use Rattle.model.specs.declared.Reply.{Reply}
-use Rattle.dataqueue.specs.declared.call.Effect.{Effect}
+use Rattle.dataqueue.proofs.Effects.{effect}
 use Rattle.dataqueue.proofs.call.done.Statement.{statement}
 use Rattle.dataqueue.proofs.call.done.Tie as tie
 
@@ -10,7 +11,7 @@ plain-requires : tie.Need-plain-requires
 plain-requires c κs = search needs
 
 returns : tie.Need-returns
-returns c = let a = c .before .args in ap {B = Effect} (λ (r : Reply). record { reply = r; tasks = a .tasks; queues = a .queues }) (c .plain .ensures)
+returns c = let a = c .before .args in ap (λ (r : Reply). effect r noInfo (a .tasks) (a .queues)) (c .plain .ensures)
 
 pub done-spec : {M : Type 1} → statement M
 done-spec = tie.close (tie.spec plain-requires returns)

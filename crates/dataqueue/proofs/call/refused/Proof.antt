@@ -1,10 +1,11 @@
--- `call::refused` meets its contract: the code is the one given. Assumes nothing.
+-- `call::refused` meets its contract. Assumes nothing.
 use borrow.Author.Needs.{needs}
 use mathlib.Core.Path.{ap, _∙_}
 use mir.Facts.{toZ-ofZ}
+use Rattle.model.specs.Answers.{noInfo}
 use Rattle.model.specs.declared.Reply.{Reply}
-use Rattle.dataqueue.specs.declared.call.Effect.{Effect}
 use Rattle.dataqueue.specs.Effects.{refusedWith}
+use Rattle.dataqueue.proofs.Effects.{effect}
 use Rattle.dataqueue.proofs.call.refused.Statement.{statement}
 use Rattle.dataqueue.proofs.call.refused.Tie as tie
 
@@ -14,9 +15,8 @@ plain-requires c κs = search needs
 returns : tie.Need-returns
 returns c =
     let b = c .before in
-    let p = c .plain .ensures in
     let a = b .args in
-    ap {B = Effect} (λ (r : Reply). record { reply = r; tasks = a .tasks; queues = a .queues }) p ∙ ap (refusedWith (a .tasks) (a .queues)) (toZ-ofZ (b .fits .code))
+    ap (λ (r : Reply). effect r noInfo (a .tasks) (a .queues)) (c .plain .ensures) ∙ ap (refusedWith (a .tasks) (a .queues)) (toZ-ofZ (b .fits .code))
 
 pub refused-spec : {M : Type 1} → statement M
 refused-spec = tie.close (tie.spec plain-requires returns)

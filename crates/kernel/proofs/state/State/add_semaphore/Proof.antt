@@ -1,18 +1,18 @@
 -- `State::add_semaphore` meets its contract. Assumes nothing.
 use borrow.Author.Needs.{needs}
-use mathlib.Core.Path.{_≡_, sym, ap, _∙_}
-use mir.Syntax.{w32}
-use mir.Val.{toZ, ofZ}
-use mathlib.Core.List.{[], _∷_, _++_}
+use mathlib.Core.Path.{_≡_, refl, sym, ap, _∙_}
 use mathlib.Core.Option.{none}
 use lib.IntN.{ℤ}
-use Rattle.model.specs.Table as Table
-use Rattle.model.specs.Table.{checkEntry}
-use Rattle.semaphore.specs.Form.{semsAs}
+use lib.ListN.{length}
+use mir.Syntax.{w32}
+use mir.Val.{toZ, ofZ}
+use Rattle.itron.specs.Limits.{maxSemaphores}
+use Rattle.model.specs.Table.{Entry, sem, checkEntry}
 use Rattle.kernel.specs.View.{viewOf}
 use Rattle.kernel.specs.Answers.{entered}
-use Rattle.kernel.proofs.Back.{sems-held, enters-entry}
-use Rattle.kernel.proofs.Building.{passed-none, entry-refused, sem-taken, sem-room}
+use Rattle.kernel.specs.Inside.{withSemaphores}
+use Rattle.kernel.proofs.Back.{sems-held}
+use Rattle.kernel.proofs.Building.{passed-none, refuses-entry, takes-entry, room-of}
 use Rattle.kernel.proofs.state.State.add_semaphore.Statement.{statement}
 use Rattle.kernel.proofs.state.State.add_semaphore.Tie as tie
 
@@ -22,57 +22,43 @@ check-semaphore-requires c κs = search needs
 enter-requires : tie.Need-enter-requires
 enter-requires c κs = search needs
 
+-- the entry as given, and the code of its checks as its words give it back
+abbrev given : tie.Start → Entry
+given b = let a = b .args in sem (a .given .domain) (a .given .attribute) (a .given .start) (a .given .max) (a .given .vector)
+
+sign : (c : tie.After-check-semaphore) → toZ w32 (ofZ w32 (c .check-semaphore .result)) ≡ c .check-semaphore .result
+sign c = search needs
+
 returns : tie.Need-returns
 returns c =
     let p = c .before .before in
     let b = p .before in
-    let a = b .args in
-    let z = p .check-semaphore .result in
-    let e : toZ w32 (ofZ w32 z) ≡ z = search needs in
-    enters-entry (b .pre) (Table.sem (a .given .domain) (a .given .attribute) (a .given .start) (a .given .max) (a .given .vector)) (c .enter .ensures ∙ ap (λ (y : ℤ). entered y (a .self)) e ∙ entry-refused (b .pre) (Table.sem (a .given .domain) (a .given .attribute) (a .given .start) (a .given .max) (a .given .vector)) z (p .check-semaphore .ensures) (λ q. c .before .if1 .taken (ap (ofZ w32) q)))
+    refuses-entry (b .pre) (given b) (p .check-semaphore .result) (p .check-semaphore .ensures) (λ q. c .before .if1 .taken (ap (ofZ w32) q)) (c .enter .ensures ∙ ap (λ (y : ℤ). entered y (b .args .self)) (sign p))
 
-passes : (c : tie.Else1) → let a = c .before .before .args in checkEntry (viewOf (a .self)) (Table.sem (a .given .domain) (a .given .attribute) (a .given .start) (a .given .max) (a .given .vector)) ≡ none
+passes : (c : tie.Else1) → checkEntry (viewOf (c .before .before .args .self)) (given (c .before .before)) ≡ none
 passes c =
     let p = c .before in
-    let a = p .before .args in
-    let z = p .check-semaphore .result in
-    let e : toZ w32 (ofZ w32 z) ≡ z = search needs in
-    passed-none (checkEntry (viewOf (a .self)) (Table.sem (a .given .domain) (a .given .attribute) (a .given .start) (a .given .max) (a .given .vector))) z (p .check-semaphore .ensures) (sym e ∙ ap (toZ w32) (c .if1 .left))
+    passed-none (checkEntry (viewOf (p .before .args .self)) (given (p .before))) (p .check-semaphore .result) (p .check-semaphore .ensures) (sym (sign p) ∙ ap (toZ w32) (c .if1 .left))
 
-resolve-requires : tie.Need-resolve-requires
-resolve-requires c κs = search needs
-
-sign : (c : tie.After-struct-told) → let d = c .before .before .before .args .given .domain in toZ w32 (ofZ w32 d) ≡ d
-sign c = search needs
-
-add-requires : tie.Need-add-requires
-add-requires c κs =
-    let b = c .before .before .before .before .before .before in
+register-requires : tie.Need-register-requires
+register-requires c κs =
+    let b = c .before .before .before in
     let a = b .args in
-    (sems-held (b .pre), sem-room (viewOf (a .self)) (a .given .domain) (a .given .attribute) (a .given .start) (a .given .max) (a .given .vector) (passes (c .before .before .before .before)))
+    let m = viewOf (a .self) in
+    (sems-held (b .pre), room-of m (given b) (length (m .sems)) maxSemaphores refl (passes (c .before)))
 
 enter-requires-2 : tie.Need-enter-requires-2
 enter-requires-2 c κs = search needs
 
 returns-2 : tie.Need-returns-2
 returns-2 c =
-    let q = c .before .before .before .before .before in
-    let b = q .before .before .before in
-    let a = b .args in
-    let d = sign q in
-    let r = c .before .before .before .before .resolve .ensures in
-    let n : c .before .add .result ≡ semsAs (viewOf (a .self) .sems ++ (Table.newSem (a .given .domain) (a .given .attribute) (a .given .start) (a .given .max) (a .given .vector) ∷ [])) =
-    c .before .add .ensures ∙ (λ i. semsAs (viewOf (a .self) .sems ++ (record { domain = d i; attribute = a .given .attribute; max = a .given .max; count = a .given .start; vector = rw d at r i } ∷ []))) in
-    enters-entry (b .pre) (Table.sem (a .given .domain) (a .given .attribute) (a .given .start) (a .given .max) (a .given .vector)) (c .enter2 .ensures ∙ sem-taken (b .pre) (a .given .domain) (a .given .attribute) (a .given .start) (a .given .max) (a .given .vector) (passes (q .before)) (c .before .add .result) n)
+    let q = c .before .before .before in
+    let b = q .before .before in
+    let f = b .pre .form in
+    let e = c .before .register .ensures in
+    takes-entry (b .pre) (given b) (passes q) (λ i. withSemaphores (f i) (e i)) (c .enter2 .ensures)
 
 pub add-semaphore-spec : {M : Type 1} → statement M
 add-semaphore-spec =
     tie.close
-    (tie.spec
-    check-semaphore-requires
-    enter-requires
-    returns
-    resolve-requires
-    add-requires
-    enter-requires-2
-    returns-2)
+    (tie.spec check-semaphore-requires enter-requires returns register-requires enter-requires-2 returns-2)

@@ -6,12 +6,12 @@ use mir.Val.{toZ, ofZ}
 use mir.Facts.{toZ-ofZ}
 use mathlib.Core.Option.{none}
 use lib.IntN.{ℤ}
-use Rattle.model.specs.Table as Table
-use Rattle.model.specs.Table.{checkEntry}
+use Rattle.model.specs.Table.{task, checkEntry}
 use Rattle.kernel.specs.View.{viewOf}
 use Rattle.kernel.specs.Answers.{entered}
-use Rattle.kernel.proofs.Back.{tasks-held, enters-entry}
-use Rattle.kernel.proofs.Building.{passed-none, entry-refused, task-taken, task-room}
+use Rattle.kernel.specs.Inside.{withTasks}
+use Rattle.kernel.proofs.Back.{tasks-held}
+use Rattle.kernel.proofs.Building.{passed-none, refuses-entry, takes-entry, task-room}
 use Rattle.kernel.proofs.state.State.add_task.Statement.{statement}
 use Rattle.kernel.proofs.state.State.add_task.Tie as tie
 
@@ -28,16 +28,16 @@ returns c =
     let a = b .args in
     let z = p .check-task .result in
     let e : toZ w32 (ofZ w32 z) ≡ z = search needs in
-    enters-entry (b .pre) (Table.task (a .domain)) (c .enter .ensures ∙ ap (λ (y : ℤ). entered y (a .self)) e ∙ entry-refused (b .pre) (Table.task (a .domain)) z (rw (toZ-ofZ (b .fits .domain)) at (p .check-task .ensures)) (λ q. c .before .if1 .taken (ap (ofZ w32) q)))
+    refuses-entry (b .pre) (task (a .domain)) z (rw (toZ-ofZ (b .fits .domain)) at (p .check-task .ensures)) (λ q. c .before .if1 .taken (ap (ofZ w32) q)) (c .enter .ensures ∙ ap (λ (y : ℤ). entered y (a .self)) e)
 
-passes : (c : tie.Else1) → let a = c .before .before .args in checkEntry (viewOf (a .self)) (Table.task (a .domain)) ≡ none
+passes : (c : tie.Else1) → let a = c .before .before .args in checkEntry (viewOf (a .self)) (task (a .domain)) ≡ none
 passes c =
     let p = c .before in
     let b = p .before in
     let a = b .args in
     let z = p .check-task .result in
     let e : toZ w32 (ofZ w32 z) ≡ z = search needs in
-    passed-none (checkEntry (viewOf (a .self)) (Table.task (a .domain))) z (rw (toZ-ofZ (b .fits .domain)) at (p .check-task .ensures)) (sym e ∙ ap (toZ w32) (c .if1 .left))
+    passed-none (checkEntry (viewOf (a .self)) (task (a .domain))) z (rw (toZ-ofZ (b .fits .domain)) at (p .check-task .ensures)) (sym e ∙ ap (toZ w32) (c .if1 .left))
 
 add-requires : tie.Need-add-requires
 add-requires c κs =
@@ -54,7 +54,9 @@ returns-2 c =
     let q = c .before .before .before in
     let b = q .before .before in
     let a = b .args in
-    enters-entry (b .pre) (Table.task (a .domain)) (c .enter2 .ensures ∙ task-taken (b .pre) (a .domain) (passes q) (c .before .add .result) (rw (toZ-ofZ (b .fits .domain)) at (c .before .add .ensures)))
+    let f = b .pre .form in
+    let e = rw (toZ-ofZ (b .fits .domain)) at (c .before .add .ensures) in
+    takes-entry (b .pre) (task (a .domain)) (passes q) (λ i. withTasks (f i) (e i)) (c .enter2 .ensures)
 
 pub add-task-spec : {M : Type 1} → statement M
 add-task-spec =

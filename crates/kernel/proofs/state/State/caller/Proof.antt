@@ -6,7 +6,8 @@ use mathlib.Core.Bool.{Bool, _&&_}
 use Rattle.access.specs.Patterns.{pick}
 use Rattle.arrays.specs.Pad.{index}
 use Rattle.model.specs.State.{domainAt}
-use Rattle.model.specs.Calls.{no, ready}
+use Rattle.model.specs.State.{no}
+use Rattle.model.specs.Rooms.{ready}
 use Rattle.tasks.specs.declared.wait.Caller.the-variants as Caller
 use Rattle.kernel.specs.View.{viewOf}
 use Rattle.kernel.proofs.Back.{tasks-held}

@@ -1,22 +1,21 @@
 -- `State::check` meets its contract. Assumes nothing.
 use borrow.Author.Needs.{needs}
-use Prim.Native.Nat.{_-_, _<_, _≤_}
-use native.Mathlib.Omega.{arith}
 use mathlib.Core.Path.{_≡_, sym, ap, _∙_}
+use mathlib.Core.Bool.{Bool}
 use mir.Syntax.{w32}
 use mir.Val.{toZ, ofZ}
 use mir.Facts.{toZ-ofZ}
-use Rattle.access.specs.Patterns.{ordinalOf, admitted}
+use Rattle.access.specs.Patterns.{pick, admitted}
 use Rattle.access.specs.Vectors.{patternOf}
-use Rattle.arrays.specs.Pad.{index}
-use Rattle.model.specs.Calls as Model
-use Rattle.model.specs.Calls.{no, vectorAt}
+use Rattle.itron.specs.Codes.{eOacv, numberOf}
+use Rattle.model.specs.State.{no}
+use Rattle.tasks.specs.declared.check.Check.the-variants.{Refused, Admitted}
+use Rattle.tasks.specs.declared.check.Target.{Target}
+use Rattle.tasks.specs.declared.wait.Caller.{Caller}
 use Rattle.tasks.specs.declared.wait.Caller.the-variants as Caller
-use Rattle.model.proofs.Ordinals.{outside, Within, within}
-use Rattle.tasks.specs.declared.check.Check.the-variants.{Admitted}
 use Rattle.kernel.specs.View.{viewOf}
-use Rattle.kernel.specs.Inside.{callerIn}
-use Rattle.kernel.proofs.Checks.{nobody, check-ctx, check-id, check-noexs, check-oacv, check-admits}
+use Rattle.kernel.specs.Inside.{callerIn, checkedBy}
+use Rattle.kernel.proofs.Checks.{nobody, is-out, is-missing}
 use Rattle.kernel.proofs.state.State.check.Statement.{statement}
 use Rattle.kernel.proofs.state.State.check.Tie as tie
 
@@ -29,64 +28,27 @@ enum-known-task c = search needs
 enum-told : tie.Need-enum-told
 enum-told c = search needs
 
+-- who calls
+asks : (c : tie.After-caller) → callerIn (viewOf (c .before .args .self)) (no (c .before .args .caller)) ≡ c .caller .result
+asks c = sym (rw (toZ-ofZ (c .before .fits .caller)) at (c .caller .ensures))
+
 returns : tie.Need-returns
 returns c =
     let p = c .before .before in
     let a = p .before .args in
-    check-ctx (viewOf (a .self)) (no (a .caller)) (a .operation) (no (a .id)) (a .kind) (sym (rw (toZ-ofZ (p .before .fits .caller)) at (p .caller .ensures)) ∙ nobody (p .caller .result) (c .before .match .keys2))
+    ap (λ (w : Caller). checkedBy w (a .operation) (a .target)) (sym (asks p ∙ nobody (p .caller .result) (c .before .match .keys2)))
 
-most-requires : tie.Need-most-requires
-most-requires c κs = search needs
+who : (c : tie.After-task) → let a = c .before .before .before .args in callerIn (viewOf (a .self)) (no (a .caller)) ≡ Caller.Ready (c .task .given .0 .0) (c .task .given .0 .1 .0)
+who c = asks (c .before .before) ∙ c .task .given .1
 
-ordinal-requires : tie.Need-ordinal-requires
-ordinal-requires c κs = search needs
+enum-told-2 : tie.Need-enum-told-2
+enum-told-2 c = search needs
 
--- which object
-object : (c : tie.After-ordinal) → let b = c .before .before .before .before .before .before in c .ordinal .result ≡ ordinalOf (b .args .id) (Model.most (b .args .kind))
-object c =
-    let b = c .before .before .before .before .before .before in
-    rw (toZ-ofZ (b .fits .id)) at (c .ordinal .ensures) ∙ ap (ordinalOf (b .args .id)) (c .before .most .ensures)
+enum-told-3 : tie.Need-enum-told-3
+enum-told-3 c = search needs
 
--- who calls
-who : (c : tie.After-task) → let b = c .before .before .before in callerIn (viewOf (b .args .self)) (no (b .args .caller)) ≡ Caller.Ready (c .task .given .0 .0) (c .task .given .0 .1 .0)
-who c = let p = c .before .before in sym (rw (toZ-ofZ (p .before .fits .caller)) at (p .caller .ensures)) ∙ c .task .given .1
-
-returns-2 : tie.Need-returns-2
-returns-2 c =
-    let p = c .before in
-    let a = p .before .before .before .before .before .before .args in
-    check-id (viewOf (a .self)) (no (a .caller)) (a .operation) (no (a .id)) (a .kind) _ _ (who (p .before .before .before)) (outside (a .id) (Model.most (a .kind)) (sym (object p) ∙ c .if1 .taken))
-
-number : (c : tie.Else1) → let b = c .before .before .before .before .before .before .before in Within (b .args .id) (Model.most (b .args .kind)) (c .before .ordinal .result)
-number c = let b = c .before .before .before .before .before .before .before in within (b .args .id) (Model.most (b .args .kind)) (c .before .ordinal .result) (object (c .before)) (c .if1 .left)
-
-registered-requires : tie.Need-registered-requires
-registered-requires c κs = search needs
-
-returns-3 : tie.Need-returns-3
-returns-3 c =
-    let q = c .before .before in
-    let p = q .before in
-    let a = p .before .before .before .before .before .before .args in
-    let w = number q in
-    let e = c .before .registered .ensures in
-    let z = q .if1 .left in
-    let l : Model.registered (viewOf (a .self)) (a .kind) < no (a .id) = let x = w .same in omega (arith, c .if2 .taken) in
-    check-noexs (viewOf (a .self)) (no (a .caller)) (a .operation) (no (a .id)) (a .kind) _ _ (who (p .before .before .before)) (w .test) l
-
-low : (c : tie.Else2) → let b = c .before .before .before .before .before .before .before .before .before in no (b .args .id) ≤ Model.registered (viewOf (b .args .self)) (b .args .kind)
-low c = let w = number (c .before .before) in let e = c .before .registered .ensures in let x = w .same in let z = c .before .before .if1 .left in omega (arith, c .if2 .left)
-
-sub-object : tie.Need-sub-object
-sub-object c = search needs
-
-vector-requires : tie.Need-vector-requires
-vector-requires c κs =
-    let b = c .before .before .before .before .before .before .before .before .before in
-    let w = number (c .before .before) in
-    let l = low c in
-    let x = w .same in
-    (b .pre, omega arith)
+enum-known-target : tie.Need-enum-known-target
+enum-known-target c = search needs
 
 pattern-requires : tie.Need-pattern-requires
 pattern-requires c κs = search needs
@@ -94,35 +56,55 @@ pattern-requires c κs = search needs
 admits-requires : tie.Need-admits-requires
 admits-requires c κs = search needs
 
+returns-2 : tie.Need-returns-2
+returns-2 c =
+    let q = c .before .before .before in
+    let a = q .before .before .before .args in
+    let w = sym (who q) in
+    let x = sym (is-out (a .target) (c .before .match2 .keys1)) in
+    λ i. checkedBy (w i) (a .operation) (x i)
+
+returns-3 : tie.Need-returns-3
+returns-3 c =
+    let q = c .before .before .before in
+    let a = q .before .before .before .args in
+    let w = sym (who q) in
+    let x = sym (is-missing (a .target) (c .before .match2 .keys2)) in
+    λ i. checkedBy (w i) (a .operation) (x i)
+
+-- whether the caller's domain is admitted
 admission :
     (c : tie.After-admits) →
-    let q = c .before .before .before .before .before in
-    let b = q .before .before .before .before .before .before .before in
-    c .admits .result ≡ admitted (patternOf (vectorAt (viewOf (b .args .self)) (b .args .kind) (no (b .args .id))) (b .args .operation)) (q .before .before .before .before .task .given .0 .1 .0)
+    let t = c .before .before .before in
+    let q = t .before .before .before in
+    c .admits .result ≡ admitted (patternOf (t .target .given .0 .1 .0) (q .before .before .before .args .operation)) (q .task .given .0 .1 .0)
 admission c =
-    let q = c .before .before .before .before .before in
-    let d = q .before .before .before .before .task .given .0 .1 .0 in
+    let t = c .before .before .before in
+    let q = t .before .before .before in
+    let d = q .task .given .0 .1 .0 in
     let e : toZ w32 (ofZ w32 d) ≡ d = search needs in
-    let w = number q .same in
-    cc
+    rw e at (c .admits .ensures) ∙ ap (λ (p : _). admitted p d) (c .before .pattern .ensures)
+
+-- what the checks give for an object that is there
+found :
+    (c : tie.After-admits) (b : Bool) → c .admits .result ≡ b →
+    let t = c .before .before .before in
+    let q = t .before .before .before in
+    let a = q .before .before .before .args in
+    pick b (Admitted (q .task .given .0 .0) (t .target .given .0 .0)) (Refused (numberOf eOacv)) ≡ checkedBy (callerIn (viewOf (a .self)) (no (a .caller))) (a .operation) (a .target)
+found c b h =
+    let t = c .before .before .before in
+    let q = t .before .before .before in
+    let a = q .before .before .before .args in
+    let w = sym (who q) in
+    let x = sym (t .target .given .1) in
+    ap (λ (k : Bool). pick k (Admitted (q .task .given .0 .0) (t .target .given .0 .0)) (Refused (numberOf eOacv))) (sym h ∙ admission c) ∙ (λ i. checkedBy (w i) (a .operation) (x i))
 
 returns-4 : tie.Need-returns-4
-returns-4 c =
-    let q = c .before .before .before .before .before .before in
-    let p = q .before in
-    let a = p .before .before .before .before .before .before .args in
-    let t = who (p .before .before .before) in
-    let w = number q in
-    ap (Admitted (p .before .before .before .task .given .0 .0)) (sym (ap index (w .same))) ∙ check-admits (viewOf (a .self)) (no (a .caller)) (a .operation) (no (a .id)) (a .kind) _ _ t (w .test) (low (c .before .before .before .before)) (sym (admission (c .before)) ∙ c .if3 .taken)
+returns-4 c = found (c .before) _ (c .if1 .taken)
 
 returns-5 : tie.Need-returns-5
-returns-5 c =
-    let q = c .before .before .before .before .before .before in
-    let p = q .before in
-    let a = p .before .before .before .before .before .before .args in
-    let t = who (p .before .before .before) in
-    let w = number q in
-    check-oacv (viewOf (a .self)) (no (a .caller)) (a .operation) (no (a .id)) (a .kind) _ _ t (w .test) (low (c .before .before .before .before)) (sym (admission (c .before)) ∙ c .if3 .left)
+returns-5 c = found (c .before) _ (c .if1 .left)
 
 pub check-spec : {M : Type 1} → statement M
 check-spec =
@@ -132,14 +114,12 @@ check-spec =
     enum-known-task
     enum-told
     returns
-    most-requires
-    ordinal-requires
-    returns-2
-    registered-requires
-    returns-3
-    sub-object
-    vector-requires
+    enum-told-2
+    enum-told-3
+    enum-known-target
     pattern-requires
     admits-requires
+    returns-2
+    returns-3
     returns-4
     returns-5)

@@ -1,19 +1,19 @@
 -- `State::check_queue` meets its contract. Assumes nothing.
 use borrow.Author.Needs.{needs}
 use mathlib.Core.Path.{_≡_, sym, ap, _∙_}
-use mir.Syntax.{w32}
-use mir.Val.{toZ, ofZ}
 use mathlib.Core.Bool.{not}
 use lib.Dec.{ltb}
 use lib.ListN.{length}
+use mir.Syntax.{w32}
+use mir.Val.{toZ, ofZ}
 use Rattle.itron.specs.Limits.{maxQueues}
 use Rattle.model.specs.Answers.{resultOf}
 use Rattle.model.specs.Table.{owns}
 use Rattle.dataqueue.specs.Entries.{entryCheck}
 use Rattle.kernel.specs.View.{viewOf}
-use Rattle.kernel.specs.Inside.{opening}
+use Rattle.kernel.specs.Inside.{opening, firstHit}
 use Rattle.kernel.proofs.Back.{queues-held}
-use Rattle.kernel.proofs.Building.{opening-refuses, opening-passes}
+use Rattle.kernel.proofs.Building.{opening-then}
 use Rattle.kernel.proofs.state.State.check_queue.Statement.{statement}
 use Rattle.kernel.proofs.state.State.check_queue.Tie as tie
 
@@ -29,35 +29,34 @@ owns-requires c κs = search needs
 opening-requires : tie.Need-opening-requires
 opening-requires c κs = search needs
 
-opens : (c : tie.After-opening) → let a = c .before .before .before .before .before .args in c .opening .result ≡ resultOf (opening (a .self .closed) (length (viewOf (a .self) .queues)) maxQueues (owns (a .self .domains) (a .given .domain)))
-opens c =
-    let a = c .before .before .before .before .before .args in
-    let l = c .before .before .before .len .ensures in
-    let o = rw (sign (c .before .before)) at (c .before .owns .ensures) in
-    c .opening .ensures ∙ (λ i. resultOf (opening (a .self .closed) (l i) maxQueues (o i)))
+check-requires : tie.Need-check-requires
+check-requires c κs = queues-held (c .before .before .before .before .before .pre)
+
+first-hit-requires : tie.Need-first-hit-requires
+first-hit-requires c κs = search needs
 
 returns : tie.Need-returns
 returns c =
-    let p = c .before in
-    let a = c .before .before .before .before .before .before .args in
-    let z = p .opening .result in
-    let e : toZ w32 (ofZ w32 z) ≡ z = search needs in
-    e ∙ opening-refuses (a .self .closed) (not (ltb (length (viewOf (a .self) .queues)) maxQueues)) (not (owns (a .self .domains) (a .given .domain))) (entryCheck (viewOf (a .self) .queues) (a .given .attribute) (a .given .capacity)) z (opens p) (λ q. c .if1 .taken (ap (ofZ w32) q))
-
-check-requires : tie.Need-check-requires
-check-requires c κs = queues-held (c .before .before .before .before .before .before .pre)
-
-returns-2 : tie.Need-returns-2
-returns-2 c =
-    let p = c .before .before in
-    let a = c .before .before .before .before .before .before .before .args in
-    let z = p .opening .result in
-    let e : toZ w32 (ofZ w32 z) ≡ z = search needs in
-    let r = c .check .result in
-    let f : toZ w32 (ofZ w32 r) ≡ r = search needs in
-    f ∙ c .check .ensures ∙ opening-passes (a .self .closed) (not (ltb (length (viewOf (a .self) .queues)) maxQueues)) (not (owns (a .self .domains) (a .given .domain))) (entryCheck (viewOf (a .self) .queues) (a .given .attribute) (a .given .capacity)) z (opens p) (sym e ∙ ap (toZ w32) (c .before .if1 .left))
+    let k = c .before in
+    let o = k .before in
+    let n = o .before .before .before in
+    let a = n .before .before .args in
+    let e : toZ w32 (ofZ w32 (c .first-hit .result)) ≡ c .first-hit .result = search needs in
+    let f : toZ w32 (ofZ w32 (o .opening .result)) ≡ o .opening .result = search needs in
+    let g : toZ w32 (ofZ w32 (k .check .result)) ≡ k .check .result = search needs in
+    let l = n .len .ensures in
+    let d = rw (sign (o .before .before)) at (o .before .owns .ensures) in
+    let x = f ∙ o .opening .ensures ∙ (λ i. resultOf (opening (a .self .closed) (l i) maxQueues (d i))) in
+    let y = g ∙ k .check .ensures in
+    e ∙ c .first-hit .ensures ∙ (λ i. firstHit (x i) (y i)) ∙ opening-then (a .self .closed) (not (ltb (length (viewOf (a .self) .queues)) maxQueues)) (not (owns (a .self .domains) (a .given .domain))) (entryCheck (viewOf (a .self) .queues) (a .given .attribute) (a .given .capacity))
 
 pub check-queue-spec : {M : Type 1} → statement M
 check-queue-spec =
     tie.close
-    (tie.spec len-requires owns-requires opening-requires returns check-requires returns-2)
+    (tie.spec
+    len-requires
+    owns-requires
+    opening-requires
+    check-requires
+    first-hit-requires
+    returns)

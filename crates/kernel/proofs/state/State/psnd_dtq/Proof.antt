@@ -1,14 +1,26 @@
 -- `State::psnd_dtq` meets its contract. Assumes nothing.
 use borrow.Author.Needs.{needs}
+use mathlib.Core.Path.{refl}
 use mir.Facts.{toZ-ofZ}
+use Rattle.model.specs.Acts.{own}
+use Rattle.model.specs.Calls.{onQueue}
+use Rattle.model.specs.declared.Patience.the-variants.{Polling}
+use Rattle.model.specs.declared.dtq.QueueCall.the-variants.{Send as send}
+use Rattle.kernel.proofs.Calls.{queues, on-part}
 use Rattle.kernel.proofs.state.State.psnd_dtq.Statement.{statement}
 use Rattle.kernel.proofs.state.State.psnd_dtq.Tie as tie
 
-send-requires : tie.Need-send-requires
-send-requires c κs = search needs
+queue-effect-requires : tie.Need-queue-effect-requires
+queue-effect-requires c κs = search needs
+
+with-queues-requires : tie.Need-with-queues-requires
+with-queues-requires c κs = search needs
 
 returns : tie.Need-returns
-returns c = rw (toZ-ofZ (c .before .fits .caller), toZ-ofZ (c .before .fits .id)) at (c .send .ensures)
+returns c =
+    let b = c .before .before in
+    let a = b .args in
+    on-part (b .pre) (queues (b .pre)) (a .caller) (a .id) (own (send Polling (a .word))) (onQueue (a .id) (own (send Polling (a .word)))) refl (rw (toZ-ofZ (b .fits .caller), toZ-ofZ (b .fits .id)) at (c .before .queue-effect .ensures)) (c .with-queues .ensures)
 
 pub psnd-dtq-spec : {M : Type 1} → statement M
-psnd-dtq-spec = tie.close (tie.spec send-requires returns)
+psnd-dtq-spec = tie.close (tie.spec queue-effect-requires with-queues-requires returns)

@@ -2,7 +2,8 @@
 use borrow.Author.Needs.{needs}
 use native.Mathlib.Omega.{arith}
 use mir.Facts.{toZ-ofZ}
-use Rattle.regions.specs.Entries.{newRegion}
+use Rattle.access.specs.declared.vector.Choice.the-variants.{Given}
+use Rattle.model.specs.Regions.{newRegion}
 use Rattle.regions.proofs.Cells.{count-of, enter-link}
 use Rattle.regions.proofs.state.Regions.add.Statement.{statement}
 use Rattle.regions.proofs.state.Regions.add.Tie as tie
@@ -31,7 +32,7 @@ add-self c = search needs
 returns : tie.Need-returns
 returns c =
     let a = c .args in
-    rw (toZ-ofZ (c .fits .domain)) (enter-link (c .pre .0) (newRegion (a .domain) (a .attribute) (a .base) (a .size) (a .vector)) (c .pre .1))
+    rw (toZ-ofZ (c .fits .domain)) (enter-link (c .pre .0) (newRegion (a .domain) (a .attribute) (a .base) (a .size) (Given (a .vector))) (c .pre .1))
 
 pub add-spec : {M : Type 1} → statement M
 add-spec =

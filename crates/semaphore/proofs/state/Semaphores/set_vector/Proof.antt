@@ -1,7 +1,7 @@
 -- `Semaphores::set_vector` meets its contract. Assumes nothing.
 use borrow.Author.Needs.{needs}
 use mathlib.Core.Path.{_∙_, ap}
-use Rattle.model.specs.declared.Semaphore.{Semaphore}
+use Rattle.model.specs.declared.sem.Semaphore.{Semaphore}
 use Rattle.semaphore.specs.View.{semsOf}
 use Rattle.semaphore.specs.Form.{semsAs}
 use lib.ListN.{set}

@@ -1,0 +1,28 @@
+// A call's request, whatever the kind of its object.
+ghost use Rattle.command.specs.Shapes.{Small};
+use crate::dtq;
+use crate::numbers::Numbers;
+use crate::sem;
+use crate::shape::Shape;
+use model::Request;
+
+// Each kind knows the numbers of its own requests.
+pub fn shape_of(request: Request) -> Shape
+    ensures { λ r. ⌜ Small r ⌝ }
+{
+    match request {
+        Request::Semaphore(_, asked) => sem::shape_of(asked),
+        Request::Queue(_, asked) => dtq::shape_of(asked),
+    }
+}
+
+// The request with the line's numbers in it; the object's is the second, behind the caller's.
+pub fn with_numbers(request: Request, numbers: Numbers) -> Request {
+    let id = numbers.second;
+    match request {
+        Request::Semaphore(_, asked) => {
+            Request::Semaphore(id, sem::with_numbers(asked, numbers))
+        }
+        Request::Queue(_, asked) => Request::Queue(id, dtq::with_numbers(asked, numbers)),
+    }
+}

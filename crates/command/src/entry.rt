@@ -1,0 +1,40 @@
+// A table's entry, whatever its kind.
+ghost use Rattle.command.specs.Shapes.{Small};
+use crate::dtq;
+use crate::mem;
+use crate::numbers::Numbers;
+use crate::sem;
+use crate::shape::PATTERNS;
+use crate::shape::Shape;
+use dataqueue::entry::QueueEntry;
+use regions::entry::RegionEntry;
+use semaphore::entry::SemaphoreEntry;
+
+pub enum Entry {
+    Task(i32),
+    Semaphore(SemaphoreEntry),
+    Queue(QueueEntry),
+    Region(RegionEntry),
+}
+
+// Each kind knows the numbers of its own entry; only a vector may be left out.
+pub fn shape_of(entry: Entry) -> Shape
+    ensures { λ r. ⌜ Small r ⌝ }
+{
+    match entry {
+        Entry::Task(_) => Shape::fixed(1, 0),
+        Entry::Semaphore(_) => Shape::open(sem::BEFORE_VECTOR, PATTERNS),
+        Entry::Queue(_) => Shape::open(dtq::BEFORE_VECTOR, PATTERNS),
+        Entry::Region(_) => Shape::open(mem::BEFORE_VECTOR, PATTERNS),
+    }
+}
+
+// The entry of its kind that the line's numbers make; `given` says that what may be left out is there.
+pub fn with_numbers(entry: Entry, numbers: Numbers, given: bool) -> Entry {
+    match entry {
+        Entry::Task(_) => Entry::Task(numbers.first),
+        Entry::Semaphore(_) => Entry::Semaphore(sem::entry(numbers, given)),
+        Entry::Queue(_) => Entry::Queue(dtq::entry(numbers, given)),
+        Entry::Region(_) => Entry::Region(mem::entry(numbers, given)),
+    }
+}

@@ -1,0 +1,114 @@
+-- What the calls on a data queue do, by what they find. Assumes nothing.
+use Prim.Native.Nat.{ℕ, suc}
+use native.Mathlib.Omega.{arith}
+use mathlib.Core.Path.{_≡_, refl, sym, ap, _∙_}
+use mathlib.Core.Bool.{Bool, true, false}
+use mathlib.Core.List.{List, [], _∷_, _++_}
+use mathlib.Core.Logic.{_≢_}
+use lib.IntN.{ℤ}
+use lib.ListN.{length, getD, drop}
+use types.Run.{OneOf}
+use denote.Enum.Declared.{tagOf}
+use Rattle.model.specs.State as Model
+use Rattle.model.specs.State.{Waiter, place}
+use Rattle.model.specs.Waits.{waitersIn, orWaits}
+use Rattle.model.specs.Queues.{actOf, does, queueIn, setBuffer, hasRoom, sendBy, onSend, receiveBy, onReceive}
+use Rattle.model.specs.declared.dtq.QueueCall.{QueueCall}
+use Rattle.model.specs.declared.dtq.QueueRequest.{QueueRequest}
+use Rattle.model.specs.declared.dtq.QueueRequest.the-variants as Request
+use Rattle.model.proofs.dtq.QueueRequest.{the-type as request-type}
+use Rattle.model.specs.declared.Info.{Info}
+use Rattle.model.specs.declared.Reply.{Reply}
+use Rattle.model.specs.declared.Patience.{Patience}
+use Rattle.model.specs.declared.Side.the-variants.{Receiving as receiving, Sending as sending}
+use Rattle.tasks.specs.declared.check.Check.{Check}
+use Rattle.tasks.specs.declared.check.Check.the-variants.{Admitted}
+use Rattle.tasks.specs.declared.state.Tasks.{Tasks}
+use Rattle.tasks.specs.declared.task.Wait.the-variants.{Receiving, Sending}
+use Rattle.tasks.specs.declared.wait.Ended.{Ended}
+use Rattle.tasks.specs.View.{domainsOf, waitsOf, waiterOf}
+use Rattle.tasks.specs.Held as TasksHeld
+use Rattle.tasks.specs.Ends.{wokenOf, endedOf}
+use Rattle.tasks.proofs.Firsts.{Waits}
+use Rattle.tasks.proofs.Rooms.{gives-by, wakes-by, waits-by}
+use Rattle.dataqueue.specs.declared.state.Queues.{Queues}
+use Rattle.dataqueue.specs.declared.call.Effect.{Effect}
+use Rattle.dataqueue.specs.View.{queuesOf}
+use Rattle.dataqueue.specs.Form.{queuesAs}
+use Rattle.dataqueue.specs.Held.{Held}
+use Rattle.dataqueue.specs.Effects.{acted, effectAs, doneWith, endedWith}
+
+abbrev pub effect : Reply → Info → Tasks → Queues → Effect
+effect r i t q = record { reply = r; info = i; tasks = t; queues = q }
+
+empty : (b : List ℕ) → length b ≡ 0 → b ≡ []
+empty [] e = refl
+empty (x ∷ b) e = absurd (omega arith)
+
+split : (b : List ℕ) → length b ≢ 0 → b ≡ getD b 0 0 ∷ drop 1 b
+split [] e = absurd (e refl)
+split (x ∷ b) e = refl
+
+module _ {t : Tasks} {s : Queues} (ht : TasksHeld.Held t) (h : Held s) (task k : ℕ) (p : Patience) where
+  abbrev ds : List ℤ
+  ds = domainsOf t
+
+  abbrev ws : List Waiter
+  ws = waitsOf t
+
+  abbrev xs : List Model.Queue
+  xs = queuesOf s
+
+  abbrev buffer : List ℕ
+  buffer = queueIn xs (suc k) .buffer
+
+  module _ (w : ℕ) where
+    pub send-wakes : {i x : ℕ} → Waits t (place receiving (suc k)) i x → (e : Ended) → e ≡ wokenOf ds ws i 0 w → endedWith e s ≡ effectAs ds (onSend ws xs (suc task) (suc k) w p)
+    send-wakes y e q =
+        wakes-by queuesAs effect ht (h .form) y 0 w e q
+        ∙ ap (λ (l : List Waiter). effectAs ds (sendBy ws xs (suc task) (suc k) w p l (hasRoom (queueIn xs (suc k))))) (sym (y .list))
+
+    module _ (n : waitersIn ws (place receiving (suc k)) ≡ []) where
+      sends : (b : Bool) → hasRoom (queueIn xs (suc k)) ≡ b → effectAs ds (sendBy ws xs (suc task) (suc k) w p [] b) ≡ effectAs ds (onSend ws xs (suc task) (suc k) w p)
+      sends b f = λ i. effectAs ds (sendBy ws xs (suc task) (suc k) w p (sym n i) (sym f i))
+
+      pub send-stores : hasRoom (queueIn xs (suc k)) ≡ true → (q : Queues) → q ≡ queuesAs (setBuffer xs (suc k) (buffer ++ (w ∷ []))) → doneWith t q 0 ≡ effectAs ds (onSend ws xs (suc task) (suc k) w p)
+      send-stores r q e = gives-by queuesAs effect ht e 0 ∙ sends true r
+
+      pub send-waits : hasRoom (queueIn xs (suc k)) ≡ false → (e : Ended) → e ≡ endedOf ds (orWaits {R = ℕ} ws [] p (waiterOf (suc task) (Sending k w))) → endedWith e s ≡ effectAs ds (onSend ws xs (suc task) (suc k) w p)
+      send-waits r e q = waits-by queuesAs effect ht (h .form) p (waiterOf (suc task) (Sending k w)) e q ∙ sends false r
+
+  receives-by : (b : List ℕ) (l : List Waiter) → buffer ≡ b → waitersIn ws (place sending (suc k)) ≡ l → effectAs ds (receiveBy ws xs (suc task) (suc k) p b l) ≡ effectAs ds (onReceive ws xs (suc task) (suc k) p)
+  receives-by b l f g = λ i. effectAs ds (receiveBy ws xs (suc task) (suc k) p (sym f i) (sym g i))
+
+  pub receive-passes : {i w : ℕ} → length buffer ≡ 0 → Waits t (place sending (suc k)) i w → (e : Ended) → e ≡ wokenOf ds ws i w 0 → endedWith e s ≡ effectAs ds (onReceive ws xs (suc task) (suc k) p)
+  receive-passes {i} z y e q =
+      wakes-by queuesAs effect ht (h .form) y (y .entry .word) 0 e (q ∙ ap (λ (n : ℕ). wokenOf ds ws i n 0) (sym (y .word)))
+      ∙ receives-by [] (y .entry ∷ y .rest) (empty buffer z) (y .list)
+
+  pub receive-waits : length buffer ≡ 0 → waitersIn ws (place sending (suc k)) ≡ [] → (e : Ended) → e ≡ endedOf ds (orWaits {R = ℕ} ws [] p (waiterOf (suc task) (Receiving k))) → endedWith e s ≡ effectAs ds (onReceive ws xs (suc task) (suc k) p)
+  receive-waits z n e q = waits-by queuesAs effect ht (h .form) p (waiterOf (suc task) (Receiving k)) e q ∙ receives-by [] [] (empty buffer z) n
+
+  pub receives : length buffer ≢ 0 → waitersIn ws (place sending (suc k)) ≡ [] → (q : Queues) → q ≡ queuesAs (setBuffer xs (suc k) (drop 1 buffer)) → doneWith t q (getD buffer 0 0) ≡ effectAs ds (onReceive ws xs (suc task) (suc k) p)
+  receives z n q e = gives-by queuesAs effect ht e (getD buffer 0 0) ∙ receives-by (getD buffer 0 0 ∷ drop 1 buffer) [] (split buffer z) n
+
+  pub receive-refills : {i w : ℕ} → length buffer ≢ 0 → Waits t (place sending (suc k)) i w → (e : Ended) → e ≡ wokenOf ds ws i (getD buffer 0 0) 0
+      → (q : Queues) → q ≡ queuesAs (setBuffer xs (suc k) (drop 1 buffer ++ (w ∷ []))) → endedWith e q ≡ effectAs ds (onReceive ws xs (suc task) (suc k) p)
+  receive-refills z y e f q g =
+      wakes-by queuesAs effect ht (g ∙ ap (λ (n : ℕ). queuesAs (setBuffer xs (suc k) (drop 1 buffer ++ (n ∷ [])))) (sym (y .word))) y (getD buffer 0 0) 0 e f
+      ∙ receives-by (getD buffer 0 0 ∷ drop 1 buffer) (y .entry ∷ y .rest) (split buffer z) (y .list)
+
+-- ---- by the call and by the request
+pub is-refer : (r : QueueRequest) → OneOf (1 ∷ []) (tagOf request-type r) → r ≡ Request.Refer
+is-refer (Request.Own c) t = absurd (omega arith)
+is-refer Request.Refer t = refl
+is-refer (Request.SetVector v) t = absurd (omega arith)
+
+module _ (t : Tasks) (s : Queues) (task k : ℕ) {x : Effect} where
+  -- the call that was asked for
+  pub does-own : {c d : QueueCall} → d ≡ c → x ≡ effectAs (domainsOf t) (does (waitsOf t) (queuesOf s) (suc task) (suc k) c) → x ≡ effectAs (domainsOf t) (does (waitsOf t) (queuesOf s) (suc task) (suc k) d)
+  does-own e f = f ∙ ap (λ (c : QueueCall). effectAs (domainsOf t) (does (waitsOf t) (queuesOf s) (suc task) (suc k) c)) (sym e)
+
+  -- the request, on the object that the checks found
+  pub does-asked : {r q : QueueRequest} {c : Check} → q ≡ r → c ≡ Admitted task k → x ≡ acted t s (actOf r) (Admitted task k) → x ≡ acted t s (actOf q) c
+  does-asked e g f = f ∙ (λ i. acted t s (actOf (sym e i)) (sym g i))

@@ -1,0 +1,376 @@
+-- What one data queue sees of a call, and its part of demand 3 after any list of calls. Assumes nothing.
+use mathlib.Core.Path.{_≡_, refl, sym, ap, _∙_, subst}
+use mathlib.Core.Logic.{_≢_, inl}
+use mathlib.Core.Bool.{Bool, true, false, not}
+use mathlib.Core.List.{List, [], _∷_, _++_, map, append-assoc, append-nil}
+use mathlib.Core.Option.{Option, none, some}
+use Prim.Native.Nat.{ℕ, zero, suc, _≤_}
+use native.Mathlib.Omega.{arith}
+use lib.ListN.{length, length-append}
+use lib.Dec.{eqb, T}
+use lib.IntN.{ℤ, pos}
+use borrow.Author.Tests.{ltb-true}
+use Rattle.access.specs.Patterns.{admitted}
+use Rattle.itron.specs.Codes.{Code, ok, waiting, error}
+use Rattle.model.specs.Lists.{at, keep, consIf, All, Each, words}
+use Rattle.model.specs.State.{Vector, Place, Fixed, Queue, receiving, sending, Waiter, State, place, queueAt, domainAt, waiter, setWaits, no}
+use Rattle.model.specs.Answers.{Effect, Released, Out, out, say, whenOk, whenWaiting, whenAccepted}
+use Rattle.model.specs.Waits.{Patience, standsAt, isOther, absent, join, receivers, senders}
+use Rattle.model.specs.Acts.{Act, own, refer, setVector, ofOwn}
+use Rattle.model.specs.Rooms.{check, actOn, Asks, onObject}
+use Rattle.model.specs.Queues as Queues
+use Rattle.model.specs.Queues.{QueueCall, send, receive, room}
+use Rattle.model.specs.QueueClaims.{askedOf, byQueue, sent, sentIn, handed, Sender, sendIn, notTask, unreleased, waitingSends, senderOf, choose, maySend, mayReceive, SentAllowed, began, IsReceive, Came, TakenIn, TakenAllowed, Carried}
+use Rattle.model.specs.Calls.{Op, onSemaphore, onQueue, Call, asks, step}
+use Rattle.model.specs.Conditions.{QueuesFit}
+use Rattle.model.specs.History.{History, event, Made, seenBy, after, history, askedIf, ofAsked, vectorSince, vectorBy, joined, without, pending}
+use Rattle.model.specs.Demand3.{JustClosed}
+use Rattle.model.proofs.Lists.{absent-keep, all-keep, all-snoc, keep-append, keep-comm, eq-of, eqb-same, eqb-sym, and-left, and-right, no-both, Distinct}
+use Rattle.model.proofs.WaitQueues.{place-of}
+use Rattle.model.proofs.Fits.{queues-put, buffer-fits}
+use Rattle.model.proofs.Rooms.{roomOf, is-at, Calls, Passed, passed, Stranger, stranger, ok-same, accepted-same}
+use Rattle.model.proofs.Semaphores as SemaphoreRoom
+use Rattle.model.proofs.Queues.{bare, laws, cover, flows, QView, qview-eq, qviewOf, content, QueueOk, Kept, stay}
+use Rattle.model.proofs.Cover.{Whose, mine, foreign, Sees, sees, keeps-records, entries-stay, vector-law, Endings, ends}
+use Rattle.model.proofs.Steps.{distinct-law, fixed-law, waiters-are}
+
+-- ---- whose a call is, as the queues see it
+pub whose : (op : Op) → Whose room laws askedOf op
+whose (onQueue n a) = mine n a refl (λ i. refl)
+whose (onSemaphore n a) = foreign (stranger room (laws .tag) SemaphoreRoom.laws (λ h. let z : _≡_ {A = ℕ} 0 1 = h in omega arith) (λ s ws xs. refl) n a) (λ i. refl)
+
+-- ---- an entry is kept as given: no call changes a queue's owner, attribute or capacity, or the number of queues
+pub entries-law : (s : State) (c : Call) → ((q : ℕ) → bare (queueAt (step s c .state) q) ≡ bare (queueAt s q)) × (length (step s c .state .queues) ≡ length (s .queues))
+entries-law s c = entries-stay room laws askedOf whose s c
+
+-- its vector is the last one set on it
+pub set-law : (s : State) → Distinct (s .waits) → (q : ℕ) (c : Call) → queueAt (step s c .state) q .vector ≡ vectorBy (askedOf q (c .op)) (step s c .answer .code) (queueAt s q .vector)
+set-law s d q c = vector-law room laws askedOf whose s d q c
+
+-- ---- one call: the words handed out, taken in and held
+-- a call that asks nothing of the queue hands out nothing and takes in nothing
+unseen : (v v′ : QView) (k : Code) → v′ ≡ v → QueueOk v → Kept v v′ (whenOk [] [] k) (whenAccepted [] [] k)
+unseen v v′ k e f = rw (ok-same {A = List ℕ} [] k, accepted-same {A = List ℕ} [] k) (stay v v′ e f)
+
+pub queue-law : (s : State) → Distinct (s .waits) → (q : ℕ) → QueueOk (qviewOf s q) → (c : Call)
+    → Kept (qviewOf s q) (qviewOf (step s c .state) q) (handed (seenBy (askedOf q) (event s c))) (sent (seenBy (askedOf q) (event s c)))
+queue-law s d q k c = sees room laws askedOf whose s d q (λ m s′. Kept (qviewOf s q) (qviewOf s′ q) (handed m) (sent m)) (record {
+  refused = λ t a e. stay _ _ refl k;
+  elsewhere = λ t a s′ e f. unseen (qviewOf s q) (qviewOf s′ q) (a .code)
+      (qview-eq (ap (λ (z : Queue). z .capacity) e) (ap (λ (z : Queue). z .buffer) e) (f (place sending q) (is-at (laws .tag) q (place sending q) refl refl)) (f (place receiving q) (is-at (laws .tag) q (place receiving q) refl refl))) k;
+  here = λ t a p. flows (s .waits) (s .queues) t q (p .numbered) (p .there) d k a;
+}) c
+
+-- ---- the limits of the queues are kept
+queues-here : (s : State) → QueuesFit (s .queues) → (t n : ℕ) (a : Act QueueCall) → QueuesFit (actOn room (s .waits) (s .queues) t n a .records)
+queues-here s f t n refer = f
+queues-here s f t n (setVector v) = queues-put f n _ refl (buffer-fits f n)
+queues-here s f t n (own c) = cover (s .waits) (s .queues) t n (λ c o. QueuesFit (o .records)) (record {
+  sendPasses = λ q w e l h. f;
+  sendStores = λ q w h r. queues-put f n _ refl (let b = ltb-true (length (queueAt s n .buffer)) (queueAt s n .capacity) r in rw (length-append (queueAt s n .buffer) (w ∷ [])) (omega arith));
+  sendFails = λ w h r. f;
+  sendWaits = λ w h r. f;
+  receives = λ q x b h r. queues-put f n _ refl (let c = buffer-fits f n in let d : length (queueAt s n .buffer) ≡ suc (length b) = ap length h in omega arith);
+  receiveRefills = λ q x b e l h r. queues-put f n _ refl (let c = buffer-fits f n in let d : length (queueAt s n .buffer) ≡ suc (length b) = ap length h in rw (length-append b (e .word ∷ [])) (omega arith));
+  receivePasses = λ q e l h r. f;
+  receiveFails = λ h r. f;
+  receiveWaits = λ h r. f;
+}) c
+
+pub queues-step : (s : State) → QueuesFit (s .queues) → (c : Call) → QueuesFit (step s c .state .queues)
+queues-step s f = keeps-records room laws askedOf whose s QueuesFit f (λ t n a p. queues-here s f t n a)
+
+-- ---- what holds after any calls
+pub record Inv (s₀ : State) (s : State) (h : History) : Type 0 where
+  pub distinct : Distinct (s .waits)
+  pub fine : (q : ℕ) → QueueOk (qviewOf s q)
+  pub fixed : s .fixed ≡ s₀ .fixed
+  pub vectors : (q : ℕ) → queueAt s q .vector ≡ vectorSince (queueAt s₀ q .vector) (byQueue q h)
+  pub came : (q : ℕ) → All (λ (e : Waiter). Came (domainAt s₀) (queueAt s₀ q .vector) (e .task) (byQueue q h)) (receivers s q)
+
+module _ (s₀ s : State) (h : History) (i : Inv s₀ s h) where
+  -- who is admitted by the state is admitted by the history
+  may-send : (q t : ℕ) → admitted (queueAt s q .vector .normal1) (domainAt s t) ≡ true → T (maySend (domainAt s₀) (queueAt s₀ q .vector) t (byQueue q h))
+  may-send q t m = subst (λ (v : Vector). T (admitted (v .normal1) (domainAt s₀ t))) (i .vectors q) (subst (λ (d : Fixed). T (admitted (queueAt s q .vector .normal1) (at (pos zero) (d .domains) t))) (i .fixed) (rw m tt))
+
+  may-receive : (q t : ℕ) → admitted (queueAt s q .vector .normal2) (domainAt s t) ≡ true → T (mayReceive (domainAt s₀) (queueAt s₀ q .vector) t (byQueue q h))
+  may-receive q t m = subst (λ (v : Vector). T (admitted (v .normal2) (domainAt s₀ t))) (i .vectors q) (subst (λ (d : Fixed). T (admitted (queueAt s q .vector .normal2) (at (pos zero) (d .domains) t))) (i .fixed) (rw m tt))
+
+  module _ (q : ℕ) where
+    abbrev Arrived : ℕ → List (Made QueueCall) → Type 0
+    Arrived t l = Came (domainAt s₀) (queueAt s₀ q .vector) t l
+
+    -- ---- where the waiting receivers came from
+    still : (m : Made QueueCall) (l : List Waiter) → m .answer .code ≡ waiting → absent (m .caller) l ≡ true
+        → All (λ (e : Waiter). Arrived (e .task) (byQueue q h)) l → All (λ (e : Waiter). Arrived (e .task) (m ∷ byQueue q h)) l
+    still m [] w f k = tt
+    still m (x ∷ l) w f k = (
+      subst (λ (b : Bool). choose b (ofAsked ⊥ IsReceive (m .asked) × T (mayReceive (domainAt s₀) (queueAt s₀ q .vector) (x .task) (byQueue q h))) (Arrived (x .task) (byQueue q h))) (sym other) (k .0),
+      still m l w (and-right (isOther (m .caller) x) (absent (m .caller) l) f) (k .1),
+    )
+      where
+        flip : (b : Bool) → not b ≡ true → b ≡ false
+        flip true e = sym e
+        flip false e = refl
+
+        other : began (x .task) m ≡ false
+        other = rw w (eqb-sym (x .task) (m .caller) ∙ flip _ (and-left (isOther (m .caller) x) (absent (m .caller) l) f))
+
+    -- the wait that begins at the queue's receiving side is a receive's
+    abbrev Receives : ℕ → Option (Act QueueCall) → Type 0
+    Receives t a = ofAsked ⊥ IsReceive a × T (mayReceive (domainAt s₀) (queueAt s₀ q .vector) t (byQueue q h))
+
+    begun-here : (t : ℕ) (n : ℤ) (a : Act QueueCall) → check room s t (no n) a ≡ none → All (λ (e : Waiter). standsAt (place receiving q) e ≡ true → Receives t (askedIf (eqb q (no n)) a)) (onObject room n a .begins t)
+    begun-here t n (own (send b w)) p = ((λ z. absurd (no-both z refl)), tt)
+    begun-here t n (own (receive b)) p = (
+      (λ z. (
+        subst (λ (k : Bool). ofAsked ⊥ IsReceive (askedIf k (own (receive b)))) (sym z) tt,
+        may-receive q t (rw (eq-of q (no n) z) (passed room s t (no n) (own (receive b)) p .may)),
+      )),
+      tt,
+    )
+    begun-here t n refer p = tt
+    begun-here t n (setVector v) p = tt
+
+    -- what another room begins is not there
+    begun-elsewhere : (A : Type 0) (l : List Waiter) → All (λ (e : Waiter). roomOf (e .place .side) ≢ laws .tag) l → All (λ (e : Waiter). standsAt (place receiving q) e ≡ true → A) l
+    begun-elsewhere A [] k = tt
+    begun-elsewhere A (e ∷ l) k = ((λ z. absurd (k .0 (ap (λ (p : Place). roomOf (p .side)) (place-of (place receiving q) (e .place) z)))), begun-elsewhere A l (k .1))
+
+    begun : (t : ℕ) (op : Op) → asks op .check s t ≡ none → All (λ (e : Waiter). standsAt (place receiving q) e ≡ true → Receives t (askedOf q op)) (asks op .begins t)
+    begun t op p = go (whose op)
+      where
+        go : Whose room laws askedOf op → All (λ (e : Waiter). standsAt (place receiving q) e ≡ true → Receives t (askedOf q op)) (asks op .begins t)
+        go (mine n a e f) =
+            subst (λ (b : Option (Act QueueCall)). All (λ (e : Waiter). standsAt (place receiving q) e ≡ true → Receives t b) (asks op .begins t)) (sym (f q))
+            (subst (λ (x : Asks). All (λ (e : Waiter). standsAt (place receiving q) e ≡ true → Receives t (askedIf (eqb q (no n)) a)) (x .begins t)) (sym e)
+            (begun-here t n a (subst (λ (x : Asks). x .check s t ≡ none) e p)))
+        go (foreign k f) = begun-elsewhere (Receives t (askedOf q op)) (asks op .begins t) (k .begins t)
+
+    module _ (op : Op) where
+      -- a call of task t on op that gives o
+      abbrev madeBy : ℕ → Out → Made QueueCall
+      madeBy t o = record { caller = t; asked = askedOf q op; answer = o .answer }
+
+      abbrev CameLaw : ℕ → Asks → Out → Type 0
+      CameLaw t x o = x ≡ asks op → All (λ (e : Waiter). Arrived (e .task) (madeBy t o ∷ byQueue q h)) (receivers (o .state) q)
+
+      came-waits : (t : ℕ) (e : Waiter) → asks op .check s t ≡ none → Calls s t → e .task ≡ t → asks op .begins t ≡ e ∷ []
+          → (m : Made QueueCall) → m .answer .code ≡ waiting → m .caller ≡ t → m .asked ≡ askedOf q op
+          → All (λ (x : Waiter). Arrived (x .task) (m ∷ byQueue q h)) (keep (standsAt (place receiving q)) (join e (s .waits)))
+      came-waits t e p c z b m w f g = subst (λ (l : List Waiter). All (λ (x : Waiter). Arrived (x .task) (m ∷ byQueue q h)) l) (sym (keep-append (standsAt (place receiving q)) (s .waits) (e ∷ []))) (go (standsAt (place receiving q) e) refl)
+        where
+          old : All (λ (x : Waiter). Arrived (x .task) (m ∷ byQueue q h)) (receivers s q)
+          old = still m (receivers s q) w (absent-keep (standsAt (place receiving q)) (m .caller) (s .waits) (rw f (c .free))) (i .came q)
+
+          newest : began (e .task) m ≡ true
+          newest = rw w (ap (λ (x : ℕ). eqb x (m .caller)) (z ∙ sym f) ∙ eqb-same (m .caller))
+
+          new : standsAt (place receiving q) e ≡ true → Arrived (e .task) (m ∷ byQueue q h)
+          new y = let r = subst (λ (l : List Waiter). All (λ (x : Waiter). standsAt (place receiving q) x ≡ true → Receives t (askedOf q op)) l) b (begun t op p) .0 y in
+              subst (λ (k : Bool). choose k (ofAsked ⊥ IsReceive (m .asked) × T (mayReceive (domainAt s₀) (queueAt s₀ q .vector) (e .task) (byQueue q h))) (Arrived (e .task) (byQueue q h)))
+              (sym newest)
+              (rw g (r .0), rw z (r .1))
+
+          go : (k : Bool) → standsAt (place receiving q) e ≡ k → All (λ (x : Waiter). Arrived (x .task) (m ∷ byQueue q h)) (receivers s q ++ consIf k e [])
+          go true y = all-snoc _ (receivers s q) e old (new y)
+          go false y = rw append-nil old
+
+      came-ends : Endings s CameLaw
+      came-ends = record {
+        refused = λ t x e o y. i .came q;
+        tells = λ t x r o y. i .came q;
+        gives = λ t x s′ w k v y. rw (k .waits) (i .came q);
+        wakes = λ t x s′ p e l w v k z f y. rw (k .waits)
+            (subst (λ (l : List Waiter). All (λ (y : Waiter). Arrived (y .task) (byQueue q h)) l) (sym (keep-comm (standsAt (place receiving q)) (isOther (e .task)) (s .waits)))
+            (all-keep _ (isOther (e .task)) (receivers s q) (i .came q)));
+        waits = λ t x e p c z f b v y. came-waits t e (subst (λ (x : Asks). x .check s t ≡ none) y p) c z (subst (λ (x : Asks). x .begins t ≡ e ∷ []) y b)
+            (madeBy t (out (say waiting 0 []) (setWaits s (join e (s .waits))))) refl refl refl;
+      }
+
+    -- ---- who took
+    nothing : (k : Code) → whenOk {1} (Unit {0}) (Unit {0}) k
+    nothing ok = tt
+    nothing waiting = tt
+    nothing (error e) = tt
+
+    abbrev MayTake : ℕ → QueueCall → Type 0
+    MayTake t (send a w) = Unit
+    MayTake t (receive a) = T (mayReceive (domainAt s₀) (queueAt s₀ q .vector) t (byQueue q h))
+
+    took : (t : ℕ) (c : QueueCall) → MayTake t c → (o : Effect Queue) → o ≡ Queues.does (s .waits) (s .queues) t q c
+        → whenOk Unit (TakenIn (domainAt s₀) (queueAt s₀ q .vector) (record { caller = t; asked = some (own c); answer = o .answer }) (byQueue q h) c) (o .answer .code)
+    took t c m o e = subst (λ (x : Effect Queue). Took c x) (sym e) (cover (s .waits) (s .queues) t q (λ (d : QueueCall) (x : Effect Queue). MayTake t d → Took d x) (record {
+      sendPasses = λ a w e l f z. (subst (λ (l : List Waiter). All (λ (y : Waiter). Arrived (y .task) (byQueue q h)) l) f (i .came q) .0, tt);
+      sendStores = λ a w f g z. tt;
+      sendFails = λ w f g z. tt;
+      sendWaits = λ w f g z. tt;
+      receives = λ a x b f g z. z;
+      receiveRefills = λ a x b e l f g z. z;
+      receivePasses = λ a e l f g z. z;
+      receiveFails = λ f g z. tt;
+      receiveWaits = λ f g z. tt;
+    }) c m)
+      where
+        Took : QueueCall → Effect Queue → Type 0
+        Took d x = whenOk Unit (TakenIn (domainAt s₀) (queueAt s₀ q .vector) (record { caller = t; asked = some (own d); answer = x .answer }) (byQueue q h) d) (x .answer .code)
+
+    take-here : (t : ℕ) (a : Act QueueCall) → Passed room s t q a
+        → TakenAllowed (domainAt s₀) (queueAt s₀ q .vector) (record { caller = t; asked = some a; answer = actOn room (s .waits) (s .queues) t q a .answer }) (byQueue q h)
+    take-here t (own (send b w)) p = took t (send b w) tt (Queues.does (s .waits) (s .queues) t q (send b w)) refl
+    take-here t (own (receive b)) p = took t (receive b) (may-receive q t (p .may)) (Queues.does (s .waits) (s .queues) t q (receive b)) refl
+    take-here t refer p = tt
+    take-here t (setVector v) p = tt
+
+    taken : (c : Call) → TakenAllowed (domainAt s₀) (queueAt s₀ q .vector) (seenBy (askedOf q) (event s c)) (byQueue q h)
+    taken c = sees room laws askedOf whose s (i .distinct) q (λ m s′. TakenAllowed (domainAt s₀) (queueAt s₀ q .vector) m (byQueue q h)) (record { refused = λ t a e. tt; elsewhere = λ t a s′ e f. nothing (a .code); here = take-here }) c
+
+    -- ---- who sent
+    abbrev Sends : ℕ → List ℕ → Type 0
+    Sends t l = All (λ (w : ℕ). T (maySend (domainAt s₀) (queueAt s₀ q .vector) t (byQueue q h))) l
+
+    none-sent : (t : ℕ) (k : Code) → Sends t (whenAccepted [] [] k)
+    none-sent t ok = tt
+    none-sent t waiting = tt
+    none-sent t (error e) = tt
+
+    accepted : (t : ℕ) (l : List ℕ) (k : Code) → Sends t l → Sends t (whenAccepted [] l k)
+    accepted t l ok f = f
+    accepted t l waiting f = f
+    accepted t l (error e) f = tt
+
+    sent-here : (t : ℕ) (a : Act QueueCall) → Passed room s t q a → Sends t (ofOwn [] sentIn a)
+    sent-here t (own (send b w)) p = (may-send q t (p .may), tt)
+    sent-here t (own (receive b)) p = tt
+    sent-here t refer p = tt
+    sent-here t (setVector v) p = tt
+
+    sent-allowed : (c : Call) → SentAllowed (domainAt s₀) (queueAt s₀ q .vector) (seenBy (askedOf q) (event s c)) (byQueue q h)
+    sent-allowed c = sees room laws askedOf whose s (i .distinct) q (λ m s′. SentAllowed (domainAt s₀) (queueAt s₀ q .vector) m (byQueue q h)) (record {
+      refused = λ t a e. tt;
+      elsewhere = λ t a s′ e f. none-sent t (a .code);
+      here = λ t a p. accepted t (ofOwn [] sentIn a) (actOn room (s .waits) (s .queues) t q a .answer .code) (sent-here t a p);
+    }) c
+
+  next : (c : Call) → Inv s₀ (step s c .state) (event s c ∷ h)
+  next c = record {
+    distinct = distinct-law s (i .distinct) c;
+    fine = λ q. queue-law s (i .distinct) q (i .fine q) c .fine;
+    fixed = fixed-law s c ∙ i .fixed;
+    vectors = λ q. set-law s (i .distinct) q c ∙ ap (vectorBy (askedOf q (c .op)) (step s c .answer .code)) (i .vectors q);
+    came = λ q. ends s (CameLaw q (c .op)) (came-ends q (c .op)) c refl;
+  }
+
+inv : (s₀ : State) → JustClosed s₀ → (cs : List Call) → Inv s₀ (after s₀ cs) (history s₀ cs)
+unfolding after history
+inv s₀ j [] = record {
+  distinct = rw (j .noWaits) tt;
+  fine = λ q. record { idle = inl (rw (j .noWaits) refl); full = inl (rw (j .noWaits) refl) };
+  fixed = refl;
+  vectors = λ q. refl;
+  came = λ q. rw (j .noWaits) tt;
+}
+inv s₀ j (c ∷ cs) = next s₀ (after s₀ cs) (history s₀ cs) (inv s₀ j cs) c
+
+-- ---- the whole list
+conserved : (s₀ : State) → JustClosed s₀ → (cs : List Call) (q : ℕ) → words handed (byQueue q (history s₀ cs)) ++ content (qviewOf (after s₀ cs) q) ≡ words sent (byQueue q (history s₀ cs))
+unfolding after history
+conserved s₀ j [] q = rw (j .noWaits, j .noWords q) refl
+conserved s₀ j (c ∷ cs) q =
+    let i = inv s₀ j cs in
+    let s = after s₀ cs in
+    let m = seenBy (askedOf q) (event s c) in
+    let given = words handed (byQueue q (history s₀ cs)) in
+    let f = queue-law s (i .distinct) q (i .fine q) c .flow in
+    append-assoc given (handed m) (content (qviewOf (step s c .state) q))
+    ∙ ap (λ (l : List ℕ). given ++ l) f
+    ∙ sym (append-assoc given (content (qviewOf s q)) (sent m))
+    ∙ ap (λ (l : List ℕ). l ++ sent m) (conserved s₀ j cs q)
+
+-- ---- the waiting senders, by the history alone
+module _ (q : ℕ) where
+  map-append : (l m : List Waiter) → map senderOf (l ++ m) ≡ map senderOf l ++ map senderOf m
+  map-append [] m = refl
+  map-append (x ∷ l) m = ap (λ (k : List Sender). senderOf x ∷ k) (map-append l m)
+
+  map-leave : (t : ℕ) (l : List Waiter) → map senderOf (keep (isOther t) l) ≡ keep (notTask t) (map senderOf l)
+  map-leave t [] = refl
+  map-leave t (x ∷ l) = go (isOther t x) (map-leave t l)
+    where
+      go : (b : Bool) → map senderOf (keep (isOther t) l) ≡ keep (notTask t) (map senderOf l) → map senderOf (consIf b x (keep (isOther t) l)) ≡ consIf b (senderOf x) (keep (notTask t) (map senderOf l))
+      go true e = ap (λ (k : List Sender). senderOf x ∷ k) e
+      go false e = e
+
+  abbrev sendersIn : List Waiter → List Sender
+  sendersIn l = map senderOf (keep (standsAt (place sending q)) l)
+
+  senders-without : (rs : List Released) (l : List Waiter) → sendersIn (without rs l) ≡ unreleased rs (sendersIn l)
+  senders-without [] l = refl
+  senders-without (r ∷ rs) l =
+      senders-without rs (keep (isOther (r .task)) l)
+      ∙ ap (unreleased rs) (ap (map senderOf) (keep-comm (standsAt (place sending q)) (isOther (r .task)) l) ∙ map-leave (r .task) (keep (standsAt (place sending q)) l))
+
+  senders-append : (l m : List Waiter) → sendersIn (l ++ m) ≡ sendersIn l ++ sendersIn m
+  senders-append l m = ap (map senderOf) (keep-append (standsAt (place sending q)) l m) ∙ map-append (keep (standsAt (place sending q)) l) (keep (standsAt (place sending q)) m)
+
+  -- what another room begins is no send
+  no-senders : (l : List Waiter) → All (λ (e : Waiter). roomOf (e .place .side) ≢ laws .tag) l → sendersIn l ≡ []
+  no-senders [] k = refl
+  no-senders (e ∷ l) k = go (standsAt (place sending q) e) refl (no-senders l (k .1))
+    where
+      go : (b : Bool) → standsAt (place sending q) e ≡ b → sendersIn l ≡ [] → map senderOf (consIf b e (keep (standsAt (place sending q)) l)) ≡ []
+      go true z r = absurd (k .0 (ap (λ (p : Place). roomOf (p .side)) (place-of (place sending q) (e .place) z)))
+      go false z r = r
+
+  -- nothing asked, no send
+  unasked : (t : ℕ) (b : Bool) (a : Act QueueCall) → ofOwn [] (sendIn t) a ≡ [] → [] ≡ ofAsked [] (sendIn t) (askedIf b a)
+  unasked t true a e = sym e
+  unasked t false a e = refl
+
+  -- what a call on a queue begins
+  sends-here : (t : ℕ) (n : ℤ) (a : Act QueueCall) → sendersIn (onObject room n a .begins t) ≡ ofAsked [] (sendIn t) (askedIf (eqb q (no n)) a)
+  sends-here t n (own (send p w)) = here (eqb q (no n))
+    where
+      here : (b : Bool) → map senderOf (consIf b (waiter t sending (no n) w) []) ≡ ofAsked [] (sendIn t) (askedIf b (own (send p w)))
+      here true = refl
+      here false = refl
+  sends-here t n (own (receive p)) = unasked t (eqb q (no n)) (own (receive p)) refl
+  sends-here t n refer = unasked t (eqb q (no n)) refer refl
+  sends-here t n (setVector v) = unasked t (eqb q (no n)) (setVector v) refl
+
+  senders-begun : (t : ℕ) (op : Op) → sendersIn (asks op .begins t) ≡ ofAsked [] (sendIn t) (askedOf q op)
+  senders-begun t op = go (whose op)
+    where
+      go : Whose room laws askedOf op → sendersIn (asks op .begins t) ≡ ofAsked [] (sendIn t) (askedOf q op)
+      go (mine n a e f) = ap (λ (x : Asks). sendersIn (x .begins t)) e ∙ sends-here t n a ∙ ap (ofAsked [] (sendIn t)) (sym (f q))
+      go (foreign k f) = no-senders (asks op .begins t) (k .begins t) ∙ ap (ofAsked [] (sendIn t)) (sym (f q))
+
+  senders-joined : (t : ℕ) (op : Op) (c : Code) → sendersIn (whenWaiting [] (asks op .begins t) c) ≡ whenWaiting [] (ofAsked [] (sendIn t) (askedOf q op)) c
+  senders-joined t op ok = refl
+  senders-joined t op (error e) = refl
+  senders-joined t op waiting = senders-begun t op
+
+  senders-pending : (h : History) → sendersIn (pending h) ≡ waitingSends (byQueue q h)
+  senders-pending [] = refl
+  senders-pending (e ∷ h) =
+      senders-append (without (e .answer .released) (pending h)) (joined e)
+      ∙ ap (λ (k : List Sender). k ++ sendersIn (joined e)) (senders-without (e .answer .released) (pending h) ∙ ap (unreleased (e .answer .released)) (senders-pending h))
+      ∙ ap (λ (k : List Sender). unreleased (e .answer .released) (waitingSends (byQueue q h)) ++ k) (senders-joined (no (e .call .caller)) (e .call .op) (e .answer .code))
+
+each-sent : (s₀ : State) → JustClosed s₀ → (cs : List Call) (q : ℕ) → Each (SentAllowed (domainAt s₀) (queueAt s₀ q .vector)) (byQueue q (history s₀ cs))
+unfolding after history
+each-sent s₀ j [] q = tt
+each-sent s₀ j (c ∷ cs) q = (sent-allowed s₀ (after s₀ cs) (history s₀ cs) (inv s₀ j cs) q c, each-sent s₀ j cs q)
+
+each-taken : (s₀ : State) → JustClosed s₀ → (cs : List Call) (q : ℕ) → Each (TakenAllowed (domainAt s₀) (queueAt s₀ q .vector)) (byQueue q (history s₀ cs))
+unfolding after history
+each-taken s₀ j [] q = tt
+each-taken s₀ j (c ∷ cs) q = (taken s₀ (after s₀ cs) (history s₀ cs) (inv s₀ j cs) q c, each-taken s₀ j cs q)
+
+pub carried : (s₀ : State) → JustClosed s₀ → (cs : List Call) (q : ℕ) → Carried (domainAt s₀) (queueAt s₀ q .vector) (byQueue q (history s₀ cs)) (queueAt (after s₀ cs) q .buffer) (senders (after s₀ cs) q)
+carried s₀ j cs q = record {
+  conserved = conserved s₀ j cs q;
+  sendersAllowed = each-sent s₀ j cs q;
+  takersAllowed = each-taken s₀ j cs q;
+  sendersAre = ap (sendersIn q) (waiters-are s₀ (j .noWaits) cs) ∙ senders-pending q (history s₀ cs);
+}
