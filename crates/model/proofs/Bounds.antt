@@ -1,19 +1,18 @@
--- The numbers in an answer are small: a task's is at most the number of tasks, and a queue's words are at most those of all queues. Assumes nothing.
-use Prim.Native.Nat.{ℕ, zero, suc, _≤_}
+-- The task numbers in an answer are small: at most the number of tasks. Assumes nothing.
+use Prim.Native.Nat.{ℕ, _≤_}
 use native.Mathlib.Omega.{arith}
 use mathlib.Core.Path.{_≡_, refl, sym, subst}
 use mathlib.Core.List.{List, [], _∷_}
 use lib.ListN.{length}
 use Rattle.itron.specs.Codes.{Err, Code, ok, waiting, error}
-use Rattle.itron.specs.Limits.{maxTasks, maxWords}
-use Rattle.model.specs.Lists.{All, at}
-use Rattle.model.specs.State.{Queue, Waiter, Place, State, queueAt, noQueue, onSem, receiving, sending, place}
+use Rattle.itron.specs.Limits.{maxTasks}
+use Rattle.model.specs.Lists.{All}
+use Rattle.model.specs.State.{Waiter, Place, State}
 use Rattle.model.specs.Answers.{Answer, Out, releasedOf, say, tells}
 use Rattle.model.specs.Waits.{waitersAt, firstTask, standsAt, freed}
-use Rattle.model.specs.Queues.{wordsUsed}
 use Rattle.model.specs.Rooms.{Asks}
 use Rattle.model.specs.Calls.{Op, Call, asks, step}
-use Rattle.model.specs.Conditions.{Known, BufferFits, Fit}
+use Rattle.model.specs.Conditions.{Known, Fit}
 use Rattle.model.proofs.Lists.{all-keep}
 use Rattle.model.proofs.Cover.{Endings, lawful, ends}
 
@@ -50,23 +49,3 @@ small-ends s f op = record {
 
 pub small : (s : State) → Fit s → (c : Call) → Small (step s c .answer)
 small s f c = ends s (λ (t : ℕ) (x : Asks) (o : Out). x ≡ asks (c .op) → Small (o .answer)) (small-ends s f (c .op)) c refl
-
--- ---- the number of buffered words that a refer to a queue tells
-used-by : (l : List Queue) (q : ℕ) → at noQueue l q .capacity ≤ wordsUsed l
-used-by l zero = omega arith
-used-by [] (suc q) = omega arith
-used-by (x ∷ l) (suc zero) = omega arith
-used-by (x ∷ l) (suc (suc q)) = let h = used-by l (suc q) in omega arith
-
-buffer-fits : (l : List Queue) (q : ℕ) → All BufferFits l → length (at noQueue l q .buffer) ≤ at noQueue l q .capacity
-buffer-fits l zero k = omega arith
-buffer-fits [] (suc q) k = omega arith
-buffer-fits (x ∷ l) (suc zero) k = k .0
-buffer-fits (x ∷ l) (suc (suc q)) k = buffer-fits l (suc q) (k .1)
-
-pub buffer-small : (s : State) → Fit s → (q : ℕ) → length (queueAt s q .buffer) ≤ maxWords
-buffer-small s f q =
-    let a = buffer-fits (s .queues) q (f .queues .buffers) in
-    let b = used-by (s .queues) q in
-    let c = f .queues .words in
-    omega arith

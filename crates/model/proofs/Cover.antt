@@ -122,12 +122,12 @@ pub data Whose {C R : Type 0} (r : Room C R) (l : RoomLaws r) (askedOf : ℕ →
 pub record Sees {C R : Type 0} (r : Room C R) (l : RoomLaws r) (s : State) (i : ℕ) (P : Made C → State → Type 0) : Type 0 where
   pub refused : (t : ℕ) (a : Option (Act C)) (e : Err) → P (record { caller = t; asked = a; answer = say (error e) 0 [] }) s
   pub elsewhere : (t : ℕ) (a : Answer) (s′ : State) → at (r .nothing) (r .records s′) i ≡ at (r .nothing) (r .records s) i
-      → ((p : Place) → isAt (l .tag) i p ≡ true → waitersAt s′ p ≡ waitersAt s p) → P (record { caller = t; asked = none; answer = a }) s′
+      → (Distinct (s .waits) → (p : Place) → isAt (l .tag) i p ≡ true → waitersAt s′ p ≡ waitersAt s p) → P (record { caller = t; asked = none; answer = a }) s′
   pub here : (t : ℕ) (a : Act C) → Passed r s t i a
       → P (record { caller = t; asked = some a; answer = actOn r (s .waits) (r .records s) t i a .answer }) (onRecords r s (actOn r (s .waits) (r .records s) t i a) .state)
 
 module _ {C R : Type 0} (r : Room C R) (l : RoomLaws r) (askedOf : ℕ → Op → Option (Act C)) (whose : (op : Op) → Whose r l askedOf op) (s : State) where
-  module _ (d : Distinct (s .waits)) (i : ℕ) (P : Made C → State → Type 0) (cs : Sees r l s i P) (t : ℕ) where
+  module _ (i : ℕ) (P : Made C → State → Type 0) (cs : Sees r l s i P) (t : ℕ) where
     -- what the object sees of a call that asks x
     abbrev Seen : Option (Act C) → Asks → Type 0
     Seen a x = P (record { caller = t; asked = a; answer = x .act s t .answer }) (x .act s t .state)
@@ -144,7 +144,7 @@ module _ {C R : Type 0} (r : Room C R) (l : RoomLaws r) (askedOf : ℕ → Op �
         go false e =
             let z = ne-of i (no n) e in
             cs .elsewhere t (o (no n) .answer) _ (ap (λ (xs : List R). at (r .nothing) xs i) (l .records-with s _ _) ∙ stays l (s .waits) (r .records s) t (no n) a .other i z)
-            (λ p f. ap (λ (ws : List Waiter). waitersAt (setWaits s ws) p) (l .waits-with s _ _) ∙ waits-apart l (s .waits) (r .records s) t (no n) d a p (other-number (l .tag) (no n) i p f (λ q. z (sym q))))
+            (λ d p f. ap (λ (ws : List Waiter). waitersAt (setWaits s ws) p) (l .waits-with s _ _) ∙ waits-apart l (s .waits) (r .records s) t (no n) d a p (other-number (l .tag) (no n) i p f (λ q. z (sym q))))
 
     by-whose : (op : Op) → asks op .check s t ≡ none → Whose r l askedOf op → Seen (askedOf i op) (asks op)
     by-whose op h (mine n a e f) =
@@ -152,9 +152,9 @@ module _ {C R : Type 0} (r : Room C R) (l : RoomLaws r) (askedOf : ℕ → Op �
         (subst (λ (x : Asks). Seen (askedIf (eqb i (no n)) a) x) (sym e) (seen-here n a (subst (λ (x : Asks). x .check s t ≡ none) e h)))
     by-whose op h (foreign k f) =
         subst (λ (b : Option (Act C)). Seen b (asks op)) (sym (f i))
-        (cs .elsewhere t (asks op .act s t .answer) (asks op .act s t .state) (ap (λ (xs : List R). at (r .nothing) xs i) (k .records s t)) (λ p g. k .waits s t d p (room-at (l .tag) i p g)))
+        (cs .elsewhere t (asks op .act s t .answer) (asks op .act s t .state) (ap (λ (xs : List R). at (r .nothing) xs i) (k .records s t)) (λ d p g. k .waits s t d p (room-at (l .tag) i p g)))
 
-  module _ (d : Distinct (s .waits)) (i : ℕ) (P : Made C → State → Type 0) (cs : Sees r l s i P) where
+  module _ (i : ℕ) (P : Made C → State → Type 0) (cs : Sees r l s i P) where
     pub sees : (c : Call) → P (seenBy (askedOf i) (event s c)) (step s c .state)
     unfolding step
     sees c = go (asks (c .op) .check s (no (c .caller))) refl
@@ -162,7 +162,7 @@ module _ {C R : Type 0} (r : Room C R) (l : RoomLaws r) (askedOf : ℕ → Op �
         go : (o : Option Err) → asks (c .op) .check s (no (c .caller)) ≡ o
             → P (record { caller = no (c .caller); asked = askedOf i (c .op); answer = actIf s (no (c .caller)) (asks (c .op)) o .answer }) (actIf s (no (c .caller)) (asks (c .op)) o .state)
         go (some e) h = cs .refused (no (c .caller)) (askedOf i (c .op)) e
-        go none h = by-whose d i P cs (no (c .caller)) (c .op) h (whose (c .op))
+        go none h = by-whose i P cs (no (c .caller)) (c .op) h (whose (c .op))
 
   -- a claim about all records of the room
   module _ (Q : List R → Type 0) (z : Q (r .records s)) (k : (t n : ℕ) (a : Act C) → Passed r s t n a → Q (actOn r (s .waits) (r .records s) t n a .records)) where
@@ -189,9 +189,9 @@ module _ {C R : Type 0} (r : Room C R) (l : RoomLaws r) (askedOf : ℕ → Op �
   unset none e v = refl
   unset (some a) e v = refl
 
-  pub vector-law : Distinct (s .waits) → (i : ℕ) (c : Call)
+  pub vector-law : (i : ℕ) (c : Call)
       → r .vector (at (r .nothing) (r .records (step s c .state)) i) ≡ vectorBy (askedOf i (c .op)) (step s c .answer .code) (r .vector (at (r .nothing) (r .records s) i))
-  vector-law d i c = sees d i (λ m s′. r .vector (at (r .nothing) (r .records s′) i) ≡ vectorBy (m .asked) (m .answer .code) (r .vector (at (r .nothing) (r .records s) i))) (record {
+  vector-law i c = sees i (λ m s′. r .vector (at (r .nothing) (r .records s′) i) ≡ vectorBy (m .asked) (m .answer .code) (r .vector (at (r .nothing) (r .records s) i))) (record {
     refused = λ t a e. unset a e (r .vector (at (r .nothing) (r .records s) i));
     elsewhere = λ t a s′ e f. ap (r .vector) e;
     here = λ t a p. ap (λ (xs : List R). r .vector (at (r .nothing) xs i)) (l .records-with s _ _) ∙ vectors l (s .waits) (r .records s) t i a (p .numbered) (p .there);

@@ -11,6 +11,6 @@ use Rattle.model.proofs.QueueClaims.{carried}
 pub demand3 : (s₀ : State) → JustClosed s₀ → (cs : List Call) → Demand3 s₀ (history s₀ cs) (after s₀ cs)
 demand3 s₀ j cs = record {
   queues = carried s₀ j cs;
-  semaphores = counted s₀ (rw (j .noWaits) tt) cs;
+  semaphores = counted s₀ cs;
   waitersAre = waiters-are s₀ (j .noWaits) cs;
 }

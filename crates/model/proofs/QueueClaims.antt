@@ -44,8 +44,8 @@ pub entries-law : (s : State) (c : Call) → ((q : ℕ) → bare (queueAt (step 
 entries-law s c = entries-stay room laws askedOf whose s c
 
 -- its vector is the last one set on it
-pub set-law : (s : State) → Distinct (s .waits) → (q : ℕ) (c : Call) → queueAt (step s c .state) q .vector ≡ vectorBy (askedOf q (c .op)) (step s c .answer .code) (queueAt s q .vector)
-set-law s d q c = vector-law room laws askedOf whose s d q c
+pub set-law : (s : State) (q : ℕ) (c : Call) → queueAt (step s c .state) q .vector ≡ vectorBy (askedOf q (c .op)) (step s c .answer .code) (queueAt s q .vector)
+set-law s q c = vector-law room laws askedOf whose s q c
 
 -- ---- one call: the words handed out, taken in and held
 -- a call that asks nothing of the queue hands out nothing and takes in nothing
@@ -54,10 +54,10 @@ unseen v v′ k e f = rw (ok-same {A = List ℕ} [] k, accepted-same {A = List �
 
 pub queue-law : (s : State) → Distinct (s .waits) → (q : ℕ) → QueueOk (qviewOf s q) → (c : Call)
     → Kept (qviewOf s q) (qviewOf (step s c .state) q) (handed (seenBy (askedOf q) (event s c))) (sent (seenBy (askedOf q) (event s c)))
-queue-law s d q k c = sees room laws askedOf whose s d q (λ m s′. Kept (qviewOf s q) (qviewOf s′ q) (handed m) (sent m)) (record {
+queue-law s d q k c = sees room laws askedOf whose s q (λ m s′. Kept (qviewOf s q) (qviewOf s′ q) (handed m) (sent m)) (record {
   refused = λ t a e. stay _ _ refl k;
   elsewhere = λ t a s′ e f. unseen (qviewOf s q) (qviewOf s′ q) (a .code)
-      (qview-eq (ap (λ (z : Queue). z .capacity) e) (ap (λ (z : Queue). z .buffer) e) (f (place sending q) (is-at (laws .tag) q (place sending q) refl refl)) (f (place receiving q) (is-at (laws .tag) q (place receiving q) refl refl))) k;
+      (qview-eq (ap (λ (z : Queue). z .capacity) e) (ap (λ (z : Queue). z .buffer) e) (f d (place sending q) (is-at (laws .tag) q (place sending q) refl refl)) (f d (place receiving q) (is-at (laws .tag) q (place receiving q) refl refl))) k;
   here = λ t a p. flows (s .waits) (s .queues) t q (p .numbered) (p .there) d k a;
 }) c
 
@@ -223,7 +223,7 @@ module _ (s₀ s : State) (h : History) (i : Inv s₀ s h) where
     take-here t (setVector v) p = tt
 
     taken : (c : Call) → TakenAllowed (domainAt s₀) (queueAt s₀ q .vector) (seenBy (askedOf q) (event s c)) (byQueue q h)
-    taken c = sees room laws askedOf whose s (i .distinct) q (λ m s′. TakenAllowed (domainAt s₀) (queueAt s₀ q .vector) m (byQueue q h)) (record { refused = λ t a e. tt; elsewhere = λ t a s′ e f. nothing (a .code); here = take-here }) c
+    taken c = sees room laws askedOf whose s q (λ m s′. TakenAllowed (domainAt s₀) (queueAt s₀ q .vector) m (byQueue q h)) (record { refused = λ t a e. tt; elsewhere = λ t a s′ e f. nothing (a .code); here = take-here }) c
 
     -- ---- who sent
     abbrev Sends : ℕ → List ℕ → Type 0
@@ -246,7 +246,7 @@ module _ (s₀ s : State) (h : History) (i : Inv s₀ s h) where
     sent-here t (setVector v) p = tt
 
     sent-allowed : (c : Call) → SentAllowed (domainAt s₀) (queueAt s₀ q .vector) (seenBy (askedOf q) (event s c)) (byQueue q h)
-    sent-allowed c = sees room laws askedOf whose s (i .distinct) q (λ m s′. SentAllowed (domainAt s₀) (queueAt s₀ q .vector) m (byQueue q h)) (record {
+    sent-allowed c = sees room laws askedOf whose s q (λ m s′. SentAllowed (domainAt s₀) (queueAt s₀ q .vector) m (byQueue q h)) (record {
       refused = λ t a e. tt;
       elsewhere = λ t a s′ e f. none-sent t (a .code);
       here = λ t a p. accepted t (ofOwn [] sentIn a) (actOn room (s .waits) (s .queues) t q a .answer .code) (sent-here t a p);
@@ -257,7 +257,7 @@ module _ (s₀ s : State) (h : History) (i : Inv s₀ s h) where
     distinct = distinct-law s (i .distinct) c;
     fine = λ q. queue-law s (i .distinct) q (i .fine q) c .fine;
     fixed = fixed-law s c ∙ i .fixed;
-    vectors = λ q. set-law s (i .distinct) q c ∙ ap (vectorBy (askedOf q (c .op)) (step s c .answer .code)) (i .vectors q);
+    vectors = λ q. set-law s q c ∙ ap (vectorBy (askedOf q (c .op)) (step s c .answer .code)) (i .vectors q);
     came = λ q. ends s (CameLaw q (c .op)) (came-ends q (c .op)) c refl;
   }
 

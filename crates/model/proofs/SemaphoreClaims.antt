@@ -23,7 +23,6 @@ use Rattle.model.proofs.Rooms.{is-at, Passed, stranger, ok-same}
 use Rattle.model.proofs.Semaphores.{bare, laws, cover, counts}
 use Rattle.model.proofs.Queues as QueueRoom
 use Rattle.model.proofs.Cover.{Whose, mine, foreign, Sees, sees, entries-stay, vector-law}
-use Rattle.model.proofs.Steps.{distinct-after}
 
 -- ---- whose a call is, as the semaphores see it
 pub whose : (op : Op) → Whose room laws askedOf op
@@ -35,16 +34,16 @@ pub entries-law : (s : State) (c : Call) → ((i : ℕ) → bare (semAt (step s 
 entries-law s c = entries-stay room laws askedOf whose s c
 
 -- its vector is the last one set on it
-pub set-law : (s : State) → Distinct (s .waits) → (i : ℕ) (c : Call) → semAt (step s c .state) i .vector ≡ vectorBy (askedOf i (c .op)) (step s c .answer .code) (semAt s i .vector)
-set-law s d i c = vector-law room laws askedOf whose s d i c
+pub set-law : (s : State) (i : ℕ) (c : Call) → semAt (step s c .state) i .vector ≡ vectorBy (askedOf i (c .op)) (step s c .answer .code) (semAt s i .vector)
+set-law s i c = vector-law room laws askedOf whose s i c
 
 -- ---- one call: count + grants = count before + accepted signals
 unseen : (x y : ℕ) (k : Code) → y ≡ x → y + whenOk 0 0 k ≡ x + whenOk 0 0 k
 unseen x y k e = ap (λ (z : ℕ). z + whenOk 0 0 k) e
 
-pub count-law : (s : State) → Distinct (s .waits) → (i : ℕ) (c : Call)
+pub count-law : (s : State) (i : ℕ) (c : Call)
     → semAt (step s c .state) i .count + grants (seenBy (askedOf i) (event s c)) ≡ semAt s i .count + signals (seenBy (askedOf i) (event s c))
-count-law s d i c = sees room laws askedOf whose s d i (λ m s′. semAt s′ i .count + grants m ≡ semAt s i .count + signals m) (record {
+count-law s i c = sees room laws askedOf whose s i (λ m s′. semAt s′ i .count + grants m ≡ semAt s i .count + signals m) (record {
   refused = λ t a e. refl;
   elsewhere = λ t a s′ e f. unseen (semAt s i .count) (semAt s′ i .count) (a .code) (ap (λ (x : Sem). x .count) e);
   here = λ t a p. counts (s .waits) (s .sems) t i (p .numbered) (p .there) a;
@@ -68,8 +67,8 @@ within-here ws xs t i h r w (own c) = cover ws xs t i (λ c o. semIn (o .records
     set : (k : ℕ) → k ≤ semIn xs i .max → semIn (setCount xs i k) i .count ≤ semIn (setCount xs i k) i .max
     set k b = subst (λ (x : Sem). x .count ≤ x .max) (sym (at-put-same noSem xs i _ h r)) b
 
-pub within-step : (s : State) → Distinct (s .waits) → Within s → (c : Call) → Within (step s c .state)
-within-step s d w c i = sees room laws askedOf whose s d i (λ m s′. semAt s′ i .count ≤ semAt s′ i .max) (record {
+pub within-step : (s : State) → Within s → (c : Call) → Within (step s c .state)
+within-step s w c i = sees room laws askedOf whose s i (λ m s′. semAt s′ i .count ≤ semAt s′ i .max) (record {
   refused = λ t a e. w i;
   elsewhere = λ t a s′ e f. subst (λ (x : Sem). x .count ≤ x .max) (sym e) (w i);
   here = λ t a p. within-here (s .waits) (s .sems) t i (p .numbered) (p .there) (w i) a;
@@ -112,14 +111,14 @@ module _ (ws : List Waiter) (xs : List Sem) (t i : ℕ) (k : SpentIn ws xs i) wh
   }) c
 
 pub spent-step : (s : State) → Distinct (s .waits) → ((i : ℕ) → Spent s i) → (i : ℕ) (c : Call) → Spent (step s c .state) i
-spent-step s d k i c = sees room laws askedOf whose s d i (λ m s′. Spent s′ i) (record {
+spent-step s d k i c = sees room laws askedOf whose s i (λ m s′. Spent s′ i) (record {
   refused = λ t a e. k i;
-  elsewhere = λ t a s′ e f. spent-same (s .waits) (s′ .waits) (s .sems) (s′ .sems) i (f (place onSem i) (is-at (laws .tag) i (place onSem i) refl refl)) (ap (λ (z : Sem). z .count) e) (k i);
+  elsewhere = λ t a s′ e f. spent-same (s .waits) (s′ .waits) (s .sems) (s′ .sems) i (f d (place onSem i) (is-at (laws .tag) i (place onSem i) refl refl)) (ap (λ (z : Sem). z .count) e) (k i);
   here = λ t a p. spent-here (s .waits) (s .sems) t i (k i) a;
 }) c
 
 -- ---- the whole list
-pub counted : (s₀ : State) → Distinct (s₀ .waits) → (cs : List Call) (i : ℕ) → Counted (semAt s₀ i .count) (bySemaphore i (history s₀ cs)) (semAt (after s₀ cs) i .count)
+pub counted : (s₀ : State) (cs : List Call) (i : ℕ) → Counted (semAt s₀ i .count) (bySemaphore i (history s₀ cs)) (semAt (after s₀ cs) i .count)
 unfolding after history
-counted s₀ d [] i = refl
-counted s₀ d (c ∷ cs) i = omega (arith, counted s₀ d cs i, count-law (after s₀ cs) (distinct-after s₀ d cs) i c)
+counted s₀ [] i = refl
+counted s₀ (c ∷ cs) i = omega (arith, counted s₀ cs i, count-law (after s₀ cs) i c)

@@ -44,7 +44,7 @@ open-refuses s c h = ap (actIf s (no (c .caller)) (asks (c .op))) (lawful (c .op
 pub sound-step : (s : State) (c : Call) → Sound s → Sound (step s c .state)
 sound-step s c k = record {
   fit = fit-step s c (k .fit);
-  within = Semaphores.within-step s (k .fit .waits .distinct) (k .within) c;
+  within = Semaphores.within-step s (k .within) c;
   spent = λ i. Semaphores.spent-step s (k .fit .waits .distinct) (k .spent) i c;
   fine = λ q. Queues.queue-law s (k .fit .waits .distinct) q (k .fine q) c .fine;
   unit = subst UnitFits (sym (fixed-law s c)) (k .unit);
