@@ -59,8 +59,8 @@ beyond [] (suc n) h = refl
 beyond (x ∷ l) (suc zero) h = absurd (omega arith)
 beyond (x ∷ l) (suc (suc n)) h = beyond l (suc n) (omega arith)
 
-pub meant-nothing : (q : Numbers) → Unlike 11 (q .function) → none ≡ itemOf q
-meant-nothing q u = ⊎-elim (λ e. ap (nth (meanings q)) (sym e)) (λ l. sym (beyond (meanings q) (q .function) l)) (outside 11 (q .function) u)
+pub meant-nothing : (q : Numbers) → Unlike (length (meanings q)) (q .function) → none ≡ itemOf q
+meant-nothing q u = ⊎-elim (λ e. ap (nth (meanings q)) (sym e)) (λ l. sym (beyond (meanings q) (q .function) l)) (outside (length (meanings q)) (q .function) u)
 
 pub is-nothing : (x : Asked) → OneOf (0 ∷ []) (tagOf asked-type x) → x ≡ Asks.Nothing
 is-nothing Asks.Nothing t = refl

@@ -76,20 +76,15 @@ impl State {
         let info = effect.info;
         let tasks = effect.tasks;
         let queues = effect.queues;
-        let semaphores = self.semaphores;
-        let regions = self.regions;
         Answer {
             outcome,
             word: reply.word,
             released,
             info,
             state: State {
-                domains: self.domains,
-                closed: self.closed,
                 tasks,
-                semaphores,
                 queues,
-                regions,
+                ..self
             },
         }
     }

@@ -78,20 +78,15 @@ impl State {
         let info = effect.info;
         let tasks = effect.tasks;
         let semaphores = effect.semaphores;
-        let queues = self.queues;
-        let regions = self.regions;
         Answer {
             outcome,
             word: reply.word,
             released,
             info,
             state: State {
-                domains: self.domains,
-                closed: self.closed,
                 tasks,
                 semaphores,
-                queues,
-                regions,
+                ..self
             },
         }
     }

@@ -46,8 +46,8 @@ pub fn put_comma(out: &mut [u8; BLOCK], at: usize, k: usize) -> usize {
 // The word that a waiting sender brings.
 fn word_of(wait: Wait) -> u32 {
     match wait {
-        Wait::Sending(_, word) => word,
-        _ => 0,
+        Wait::At(_, _, word) => word,
+        Wait::Ready => 0,
     }
 }
 
@@ -57,11 +57,11 @@ fn put_waiter(out: &mut [u8; BLOCK], at: usize, state: State, side: Side, task: 
 {
     let at = put_number(out, at, task as u64);
     match side {
-        Side::OnSem | Side::Receiving => at,
         Side::Sending => {
             let wait = state.task(task).wait();
             put_named(out, at, b":", word_of(wait) as u64)
         }
+        _ => at,
     }
 }
 

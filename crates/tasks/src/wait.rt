@@ -1,13 +1,12 @@
 // Wait queues: who is first at a place, who calls, who is woken and who begins to wait.
 ghost use mathlib.Core.Path.{_≡_};
-ghost use mathlib.Core.Bool.{false};
 ghost use mathlib.Core.List.{[], map};
 ghost use Prim.Native.Nat.{ℕ, suc, _<_};
 ghost use lib.ListN.{length, getD};
 ghost use Rattle.model.specs.State.{place, samePlace, sideNumber, no};
 ghost use Rattle.model.specs.Waits.{waitersIn, firstTask, orWaits};
 ghost use Rattle.tasks.specs.View.{domainsOf, waitsOf, waiterOf, noTask};
-ghost use Rattle.tasks.specs.Held.{Held, Free, isReady};
+ghost use Rattle.tasks.specs.Held.{Held, Free, Waiting};
 ghost use Rattle.tasks.specs.Ends.{firstOf, taskIn, callerOf, endedOf, wokenOf};
 use crate::state::Tasks;
 use crate::task::Task;
@@ -78,9 +77,7 @@ pub(crate) fn waits_at(wait: Wait, side: Side, object: usize) -> bool
 {
     match wait {
         Wait::Ready => false,
-        Wait::OnSem(k) => is_same(side, object, Side::OnSem, k),
-        Wait::Receiving(k) => is_same(side, object, Side::Receiving, k),
-        Wait::Sending(k, _) => is_same(side, object, Side::Sending, k),
+        Wait::At(at, k, _) => is_same(side, object, at, k),
     }
 }
 
@@ -89,8 +86,8 @@ pub(crate) fn word_of(wait: Wait) -> u32
     ensures { λ r. ⌜ r ≡ waiterOf 0 wait .word ⌝ }
 {
     match wait {
-        Wait::Sending(_, word) => word,
-        _ => 0,
+        Wait::At(_, _, word) => word,
+        Wait::Ready => 0,
     }
 }
 
@@ -182,7 +179,7 @@ impl Tasks {
 
     // The caller waits, if it has the patience.
     pub fn or_wait(self, task: usize, wait: Wait, patience: Patience) -> Ended
-        requires { ⌜ Held self × Free (domainsOf self) (waitsOf self) task × (isReady wait ≡ false) ⌝ }
+        requires { ⌜ Held self × Free (domainsOf self) (waitsOf self) task × Waiting wait ⌝ }
         ensures { λ r. ⌜ r ≡ endedOf (domainsOf self) (orWaits {R = ℕ} (waitsOf self) [] patience (waiterOf (suc task) wait)) ⌝ }
     {
         match patience {

@@ -1,6 +1,5 @@
 -- `State::empty` meets its contract. Assumes nothing.
 use borrow.Author.Needs.{needs}
-use mathlib.Core.Bool.{false}
 use Rattle.kernel.proofs.state.State.empty.Statement.{statement}
 use Rattle.kernel.proofs.state.State.empty.Tie as tie
 
@@ -17,12 +16,7 @@ empty-requires-4 : tie.Need-empty-requires-4
 empty-requires-4 c κs = search needs
 
 returns : tie.Need-returns
-returns c =
-    let t = c .before .before .before .empty .ensures in
-    let s = c .before .before .empty2 .ensures in
-    let q = c .before .empty3 .ensures in
-    let r = c .empty4 .ensures in
-    λ i. record { domains = c .before .before .before .before .args .domains; closed = false; tasks = t i; semaphores = s i; queues = q i; regions = r i }
+returns c = cc
 
 pub empty-spec : {M : Type 1} → statement M
 empty-spec =

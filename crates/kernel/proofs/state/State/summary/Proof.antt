@@ -20,7 +20,7 @@ len-requires-4 : tie.Need-len-requires-4
 len-requires-4 c κs = regions-held (c .before .before .before .before .before .before .before .before .pre)
 
 returns : tie.Need-returns
-returns c = rw (c .before .before .before .before .unit .ensures, c .before .before .before .len .ensures, c .before .before .len2 .ensures, c .before .len3 .ensures, c .len4 .ensures)
+returns c = cc
 
 pub summary-spec : {M : Type 1} → statement M
 summary-spec =
