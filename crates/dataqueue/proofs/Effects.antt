@@ -24,7 +24,7 @@ use Rattle.model.specs.declared.Side.the-variants.{Receiving as receiving, Send
 use Rattle.tasks.specs.declared.check.Check.{Check}
 use Rattle.tasks.specs.declared.check.Check.the-variants.{Admitted}
 use Rattle.tasks.specs.declared.state.Tasks.{Tasks}
-use Rattle.tasks.specs.declared.task.Wait.the-variants.{At}
+use Rattle.tasks.specs.declared.task.Wait.the-variants.{Receiving, Sending}
 use Rattle.tasks.specs.declared.wait.Ended.{Ended}
 use Rattle.tasks.specs.View.{domainsOf, waitsOf, waiterOf}
 use Rattle.tasks.specs.Held as TasksHeld
@@ -75,8 +75,8 @@ module _ {t : Tasks} {s : Queues} (ht : TasksHeld.Held t) (h : Held s) (task k :
       pub send-stores : hasRoom (queueIn xs (suc k)) ≡ true → (q : Queues) → q ≡ queuesAs (setBuffer xs (suc k) (buffer ++ (w ∷ []))) → doneWith t q 0 ≡ effectAs ds (onSend ws xs (suc task) (suc k) w p)
       send-stores r q e = gives-by queuesAs effect ht e 0 ∙ sends true r
 
-      pub send-waits : hasRoom (queueIn xs (suc k)) ≡ false → (e : Ended) → e ≡ endedOf ds (orWaits {R = ℕ} ws [] p (waiterOf (suc task) (At sending k w))) → endedWith e s ≡ effectAs ds (onSend ws xs (suc task) (suc k) w p)
-      send-waits r e q = waits-by queuesAs effect ht (h .form) p (waiterOf (suc task) (At sending k w)) e q ∙ sends false r
+      pub send-waits : hasRoom (queueIn xs (suc k)) ≡ false → (e : Ended) → e ≡ endedOf ds (orWaits {R = ℕ} ws [] p (waiterOf (suc task) (Sending k w))) → endedWith e s ≡ effectAs ds (onSend ws xs (suc task) (suc k) w p)
+      send-waits r e q = waits-by queuesAs effect ht (h .form) p (waiterOf (suc task) (Sending k w)) e q ∙ sends false r
 
   receives-by : (b : List ℕ) (l : List Waiter) → buffer ≡ b → waitersIn ws (place sending (suc k)) ≡ l → effectAs ds (receiveBy ws xs (suc task) (suc k) p b l) ≡ effectAs ds (onReceive ws xs (suc task) (suc k) p)
   receives-by b l f g = λ i. effectAs ds (receiveBy ws xs (suc task) (suc k) p (sym f i) (sym g i))
@@ -86,8 +86,8 @@ module _ {t : Tasks} {s : Queues} (ht : TasksHeld.Held t) (h : Held s) (task k :
       wakes-by queuesAs effect ht (h .form) y (y .entry .word) 0 e (q ∙ ap (λ (n : ℕ). wokenOf ds ws i n 0) (sym (y .word)))
       ∙ receives-by [] (y .entry ∷ y .rest) (empty buffer z) (y .list)
 
-  pub receive-waits : length buffer ≡ 0 → waitersIn ws (place sending (suc k)) ≡ [] → (e : Ended) → e ≡ endedOf ds (orWaits {R = ℕ} ws [] p (waiterOf (suc task) (At receiving k 0))) → endedWith e s ≡ effectAs ds (onReceive ws xs (suc task) (suc k) p)
-  receive-waits z n e q = waits-by queuesAs effect ht (h .form) p (waiterOf (suc task) (At receiving k 0)) e q ∙ receives-by [] [] (empty buffer z) n
+  pub receive-waits : length buffer ≡ 0 → waitersIn ws (place sending (suc k)) ≡ [] → (e : Ended) → e ≡ endedOf ds (orWaits {R = ℕ} ws [] p (waiterOf (suc task) (Receiving k))) → endedWith e s ≡ effectAs ds (onReceive ws xs (suc task) (suc k) p)
+  receive-waits z n e q = waits-by queuesAs effect ht (h .form) p (waiterOf (suc task) (Receiving k)) e q ∙ receives-by [] [] (empty buffer z) n
 
   pub receives : length buffer ≢ 0 → waitersIn ws (place sending (suc k)) ≡ [] → (q : Queues) → q ≡ queuesAs (setBuffer xs (suc k) (drop 1 buffer)) → doneWith t q (getD buffer 0 0) ≡ effectAs ds (onReceive ws xs (suc task) (suc k) p)
   receives z n q e = gives-by queuesAs effect ht e (getD buffer 0 0) ∙ receives-by (getD buffer 0 0 ∷ drop 1 buffer) [] (split buffer z) n

@@ -91,7 +91,7 @@ pub(crate) fn send(
                 done(tasks, queues.push(object, word), 0)
             } else {
                 ended(
-                    tasks.or_wait(task, Wait::At(Side::Sending, object as u8, word), patience),
+                    tasks.or_wait(task, Wait::Sending(object as u8, word), patience),
                     queues,
                 )
             }
@@ -115,7 +115,7 @@ pub(crate) fn receive(
         return match sender {
             First::Waiter(from, sent) => ended(tasks.wake(from, sent, 0), queues),
             First::Nobody => ended(
-                tasks.or_wait(task, Wait::At(Side::Receiving, object as u8, 0), patience),
+                tasks.or_wait(task, Wait::Receiving(object as u8), patience),
                 queues,
             ),
         };

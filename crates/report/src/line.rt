@@ -46,8 +46,8 @@ pub fn put_comma(out: &mut [u8; BLOCK], at: usize, k: usize) -> usize {
 // The word that a waiting sender brings.
 fn word_of(wait: Wait) -> u32 {
     match wait {
-        Wait::At(_, _, word) => word,
-        Wait::Ready => 0,
+        Wait::Sending(_, word) => word,
+        _ => 0,
     }
 }
 

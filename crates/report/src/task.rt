@@ -7,7 +7,6 @@ use crate::output::put;
 use crate::output::put_byte;
 use crate::output::put_named;
 use kernel::state::State;
-use model::Side;
 use tasks::task::Wait;
 
 // The number of an index.
@@ -15,23 +14,16 @@ fn number_of(index: u8) -> u64 {
     index as u64 + 1
 }
 
-// Where a task waits, and with which word.
-fn put_place(out: &mut [u8; BLOCK], at: usize, side: Side, number: u64, word: u32) -> usize {
-    match side {
-        Side::OnSem => put_named(out, at, b" sem=", number),
-        Side::Receiving => put_named(out, at, b" receiving=", number),
-        Side::Sending => {
-            let at = put_named(out, at, b" sending=", number);
-            put_named(out, at, b" word=", word as u64)
-        }
-    }
-}
-
 // What a task waits for.
 fn put_wait(out: &mut [u8; BLOCK], at: usize, wait: Wait) -> usize {
     match wait {
         Wait::Ready => put(out, at, b" ready"),
-        Wait::At(side, object, word) => put_place(out, at, side, number_of(object), word),
+        Wait::OnSem(object) => put_named(out, at, b" sem=", number_of(object)),
+        Wait::Receiving(object) => put_named(out, at, b" receiving=", number_of(object)),
+        Wait::Sending(object, word) => {
+            let at = put_named(out, at, b" sending=", number_of(object));
+            put_named(out, at, b" word=", word as u64)
+        }
     }
 }
 

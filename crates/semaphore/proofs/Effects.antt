@@ -29,7 +29,7 @@ use Rattle.model.specs.declared.Side.the-variants.{OnSem as onSem}
 use Rattle.tasks.specs.declared.check.Check.{Check}
 use Rattle.tasks.specs.declared.check.Check.the-variants.{Admitted}
 use Rattle.tasks.specs.declared.state.Tasks.{Tasks}
-use Rattle.tasks.specs.declared.task.Wait.the-variants.{At}
+use Rattle.tasks.specs.declared.task.Wait.the-variants.{OnSem}
 use Rattle.tasks.specs.declared.wait.Ended.{Ended}
 use Rattle.tasks.specs.View.{domainsOf, waitsOf, waiterOf}
 use Rattle.tasks.specs.Held as TasksHeld
@@ -94,8 +94,8 @@ module _ {t : Tasks} {s : Semaphores} (ht : TasksHeld.Held t) (h : Held s) (k : 
       acquire-takes l =
           gives-by semsAs effect ht (counts (x .count - 1) (x .count - 1) refl) 0 ∙ acquires (suc (x .count - 1)) (omega arith)
 
-      pub acquire-waits : x .count ≤ 0 → (e : Ended) → e ≡ endedOf ds (orWaits {R = ℕ} ws [] p (waiterOf (suc task) (At onSem k 0))) → endedWith e s ≡ effectAs ds (onAcquire ws xs (suc task) (suc k) p)
-      acquire-waits l e q = waits-by semsAs effect ht (h .form) p (waiterOf (suc task) (At onSem k 0)) e q ∙ acquires 0 (omega arith)
+      pub acquire-waits : x .count ≤ 0 → (e : Ended) → e ≡ endedOf ds (orWaits {R = ℕ} ws [] p (waiterOf (suc task) (OnSem k))) → endedWith e s ≡ effectAs ds (onAcquire ws xs (suc task) (suc k) p)
+      acquire-waits l e q = waits-by semsAs effect ht (h .form) p (waiterOf (suc task) (OnSem k)) e q ∙ acquires 0 (omega arith)
 
 -- ---- by the call and by the request
 pub is-signal : (c : SemaphoreCall) → OneOf (0 ∷ []) (tagOf call-type c) → c ≡ signal

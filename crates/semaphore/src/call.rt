@@ -108,7 +108,7 @@ pub(crate) fn acquire(
         return done(tasks, semaphores.put(object, semaphore), 0);
     }
     ended(
-        tasks.or_wait(task, Wait::At(Side::OnSem, object as u8, 0), patience),
+        tasks.or_wait(task, Wait::OnSem(object as u8), patience),
         semaphores,
     )
 }

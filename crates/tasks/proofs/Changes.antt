@@ -3,6 +3,7 @@ use Prim.Native.Nat.{ℕ, suc, _+_, _<_}
 use native.Mathlib.Omega.{arith}
 use mathlib.Core.Path.{_≡_, refl, sym, ap, _∙_}
 use mathlib.Core.Logic.{_≢_}
+use mathlib.Core.Bool.{false}
 use mathlib.Core.List.{List, [], _∷_, _++_, map}
 use lib.IntN.{ℤ, pos}
 use lib.ListN.{length, getD, take, set, length-map, length-append}
@@ -14,14 +15,13 @@ use Rattle.model.specs.Waits.{absent, leave, join}
 use Rattle.model.specs.Conditions.{WaitsFit}
 use Rattle.model.proofs.Fits.{few, waits-join}
 use Rattle.tasks.specs.declared.task.Wait.{Wait}
-use Rattle.model.specs.declared.Side.the-variants.{OnSem as onSem}
-use Rattle.tasks.specs.declared.task.Wait.the-variants.{Ready, At}
+use Rattle.tasks.specs.declared.task.Wait.the-variants.{Ready, OnSem, Receiving, Sending}
 use Rattle.tasks.specs.declared.task.Task.{Task}
 use Rattle.tasks.specs.declared.order.Order.{Order}
 use Rattle.tasks.specs.declared.state.Tasks.{Tasks}
 use Rattle.tasks.specs.View.{noTask, withWait, domainsOf, waitsOf, waiterOf}
 use Rattle.tasks.specs.Form.{tasksAs, tasksFrom, waitFor, waitIn, indexIn}
-use Rattle.tasks.specs.Held.{Held, Free, Waiting}
+use Rattle.tasks.specs.Held.{Held, Free, isReady}
 use Rattle.tasks.specs.Orders.{orderOf, without}
 use Rattle.tasks.proofs.Waits.{wait-snoc, wait-snoc-other, wait-gone, wait-stays}
 use Rattle.tasks.proofs.Entries.{entry, entries-length, entries-set, entries-snoc}
@@ -72,9 +72,11 @@ release-form ds ws f i h =
 
 module _ (ds : List ℤ) (ws : List Waiter) (f : WaitsFit ds ws) (i : ℕ) (k : Free ds ws i) where
   -- a waiting task with this index can join
-  fits : (w : Wait) → Waiting w → WaitsFit ds (join (waiterOf (suc i) w) ws)
-  fits Ready b = absurd b
-  fits (At d n x) b = waits-join f (waiterOf (suc i) (At d n x)) (k .free) ((λ q. omega arith), k .low) ((λ q. omega arith), b)
+  fits : (w : Wait) → isReady w ≡ false → WaitsFit ds (join (waiterOf (suc i) w) ws)
+  fits Ready b = absurd (let z : _≡_ {A = ℕ} 0 1 = cc in omega arith)
+  fits (OnSem n) b = waits-join f (waiterOf (suc i) (OnSem n)) (k .free) ((λ q. omega arith), k .low) ((λ q. omega arith), refl)
+  fits (Receiving n) b = waits-join f (waiterOf (suc i) (Receiving n)) (k .free) ((λ q. omega arith), k .low) ((λ q. omega arith), refl)
+  fits (Sending n x) b = waits-join f (waiterOf (suc i) (Sending n x)) (k .free) ((λ q. omega arith), k .low) ((λ q. omega arith), tt)
 
   join-as : (w : Wait) (e : Waiter) → e .task ≡ suc i → waitIn e ≡ w → WaitsFit ds (join e ws) → joined (tasksAs ds ws) i w ≡ tasksAs ds (join e ws)
   unfolding tasksAs
@@ -91,9 +93,11 @@ module _ (ds : List ℤ) (ws : List Waiter) (f : WaitsFit ds ws) (i : ℕ) (k : 
       let ts = entries-form ds ws l i w (k .low) (ap (λ (x : ℕ). waitFor x l) (sym q) ∙ wait-snoc e ws (ap (λ (x : ℕ). absent x ws) q ∙ k .free) ∙ r) (λ u z. wait-snoc-other u e ws (λ y. z (y ∙ q))) in
       λ j. withWaits (tasksAs ds ws) (ts j) (sym n j) (o j)
 
-  join-form : (w : Wait) → Waiting w → joined (tasksAs ds ws) i w ≡ tasksAs ds (join (waiterOf (suc i) w) ws)
-  join-form Ready b = absurd b
-  join-form (At d n x) b = join-as (At d n x) (waiterOf (suc i) (At d n x)) refl refl (fits (At d n x) b)
+  join-form : (w : Wait) → isReady w ≡ false → joined (tasksAs ds ws) i w ≡ tasksAs ds (join (waiterOf (suc i) w) ws)
+  join-form Ready b = absurd (let z : _≡_ {A = ℕ} 0 1 = cc in omega arith)
+  join-form (OnSem n) b = join-as (OnSem n) (waiterOf (suc i) (OnSem n)) refl refl (fits (OnSem n) b)
+  join-form (Receiving n) b = join-as (Receiving n) (waiterOf (suc i) (Receiving n)) refl refl (fits (Receiving n) b)
+  join-form (Sending n x) b = join-as (Sending n x) (waiterOf (suc i) (Sending n x)) refl refl (fits (Sending n x) b)
 
 add-form : (ds : List ℤ) (ws : List Waiter) (d : ℤ) → length ds < maxTasks → ws ≡ [] → added (tasksAs ds ws) d ≡ tasksAs (ds ++ (d ∷ [])) ws
 unfolding tasksAs
@@ -117,7 +121,7 @@ module _ {t : Tasks} (h : Held t) where
       (λ j. withWaits t (set (t .entries) i (e j)) (f j .count) (f j .entries))
       ∙ ap (λ (y : Tasks). released y i) (h .form) ∙ release-form (domainsOf t) (waitsOf t) (h .fit) i l
 
-  pub join-link : (i : ℕ) (w : Wait) (x : Task) → Free (domainsOf t) (waitsOf t) i → Waiting w → x ≡ withWait (getD (t .entries) i noTask) w
+  pub join-link : (i : ℕ) (w : Wait) (x : Task) → Free (domainsOf t) (waitsOf t) i → isReady w ≡ false → x ≡ withWait (getD (t .entries) i noTask) w
       → withWaits t (set (t .entries) i x) (t .waiting + 1) (set (t .order) (t .waiting) i) ≡ tasksAs (domainsOf t) (join (waiterOf (suc i) w) (waitsOf t))
   join-link i w x k b e =
       (λ j. withWaits t (set (t .entries) i (e j)) (t .waiting + 1) (set (t .order) (t .waiting) i))
@@ -130,8 +134,8 @@ module _ {t : Tasks} (h : Held t) where
   pub join-room : (i : ℕ) → Free (domainsOf t) (waitsOf t) i → t .waiting < maxTasks
   join-room i k =
       let w = waiting-seen h in
-      let x = waiterOf (suc i) (At onSem 0 0) in
-      let f = few (fits (domainsOf t) (waitsOf t) (h .fit) i k (At onSem 0 0) refl) in
+      let x = waiterOf (suc i) (OnSem 0) in
+      let f = few (fits (domainsOf t) (waitsOf t) (h .fit) i k (OnSem 0) refl) in
       let n = length-append (waitsOf t) (x ∷ []) in
       let b = h .fit .tasks in
       omega arith

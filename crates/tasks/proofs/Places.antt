@@ -4,7 +4,7 @@ use native.Mathlib.Omega.{arith}
 use mathlib.Core.Path.{_≡_, refl, sym}
 use mathlib.Core.Bool.{Bool, true, false, and-false}
 use mathlib.Core.List.{[], _∷_}
-use mathlib.Core.Logic.{_≢_}
+use mathlib.Core.Logic.{_≢_, ⊎-elim}
 use lib.Dec.{eqb}
 use types.Run.{OneOf}
 use denote.Enum.Declared.{tagOf}
@@ -13,11 +13,14 @@ use Rattle.model.specs.declared.Side.{Side}
 use Rattle.model.specs.declared.Side.the-variants.{OnSem as onSem}
 use Rattle.model.proofs.Lists.{eqb-same, eqb-no}
 use Rattle.tasks.specs.declared.task.Wait.{Wait}
-use Rattle.tasks.specs.declared.task.Wait.the-variants.{Ready, At}
+use Rattle.tasks.specs.declared.task.Wait.the-variants.{Ready, OnSem, Receiving, Sending}
 use Rattle.tasks.specs.View.{waiterOf}
 use Rattle.tasks.specs.Held.{isReady}
 use Rattle.tasks.proofs.task.Wait.{the-type}
 use Rattle.tasks.proofs.Orders.{eqb-suc}
+
+three : {X : Type 0} {a b c t : ℕ} → OneOf (a ∷ b ∷ c ∷ []) t → (t ≡ a → ⊥) → (t ≡ b → ⊥) → (t ≡ c → ⊥) → X
+three h x y z = absurd (⊎-elim (λ e. x e) (⊎-elim (λ e. y e) (λ e. z e)) h)
 
 -- ---- whether it is the place with this side and this index
 module _ (d e : Side) (o k : ℕ) where
@@ -33,31 +36,45 @@ placed d o w = samePlace (place d (suc o)) (waiterOf 0 w .place)
 
 pub nowhere : (d : Side) (w : Wait) (o : ℕ) → OneOf (0 ∷ []) (tagOf the-type w) → false ≡ placed d o w
 nowhere d Ready o t = sym (rw (eqb-no (suc o) 0 (λ e. omega arith)) (and-false (sameSide d onSem)))
-nowhere d (At e k w) o t = absurd (omega arith)
+nowhere d (OnSem k) o t = absurd (omega arith)
+nowhere d (Receiving k) o t = absurd (omega arith)
+nowhere d (Sending k w) o t = absurd (omega arith)
 
 -- ---- its word
-pub no-word : (w : Wait) → OneOf (0 ∷ []) (tagOf the-type w) → 0 ≡ waiterOf 0 w .word
+pub no-word : (w : Wait) → OneOf (0 ∷ 1 ∷ 2 ∷ []) (tagOf the-type w) → 0 ≡ waiterOf 0 w .word
 no-word Ready h = refl
-no-word (At d k w) h = absurd (omega arith)
+no-word (OnSem k) h = refl
+no-word (Receiving k) h = refl
+no-word (Sending k w) h = three h (λ e. omega arith) (λ e. omega arith) (λ e. omega arith)
 
 -- ---- whether it is ready
 pub idle : (w : Wait) → OneOf (0 ∷ []) (tagOf the-type w) → isReady w ≡ true
 idle Ready t = refl
-idle (At d k w) t = absurd (omega arith)
+idle (OnSem k) t = absurd (omega arith)
+idle (Receiving k) t = absurd (omega arith)
+idle (Sending k w) t = absurd (omega arith)
 
-pub busy : (w : Wait) → OneOf (1 ∷ []) (tagOf the-type w) → isReady w ≡ false
-busy Ready t = absurd (omega arith)
-busy (At d k w) t = refl
+pub busy : (w : Wait) → OneOf (1 ∷ 2 ∷ 3 ∷ []) (tagOf the-type w) → isReady w ≡ false
+busy Ready t = three t (λ e. omega arith) (λ e. omega arith) (λ e. omega arith)
+busy (OnSem k) t = refl
+busy (Receiving k) t = refl
+busy (Sending k w) t = refl
 
 -- ---- a waiter's place and word do not depend on its task
 pub place-any : (t : ℕ) (w : Wait) → waiterOf t w .place ≡ waiterOf 0 w .place
 place-any t Ready = refl
-place-any t (At d k x) = refl
+place-any t (OnSem k) = refl
+place-any t (Receiving k) = refl
+place-any t (Sending k x) = refl
 
 pub word-any : (t : ℕ) (w : Wait) → waiterOf t w .word ≡ waiterOf 0 w .word
 word-any t Ready = refl
-word-any t (At d k x) = refl
+word-any t (OnSem k) = refl
+word-any t (Receiving k) = refl
+word-any t (Sending k x) = refl
 
 pub task-any : (t : ℕ) (w : Wait) → waiterOf t w .task ≡ t
 task-any t Ready = refl
-task-any t (At d k x) = refl
+task-any t (OnSem k) = refl
+task-any t (Receiving k) = refl
+task-any t (Sending k x) = refl

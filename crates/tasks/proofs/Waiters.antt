@@ -4,15 +4,15 @@ use native.Mathlib.Omega.{arith}
 use native.Mathlib.Numerals.{add-one}
 use mathlib.Core.Path.{_≡_, refl, sym, ap, _∙_}
 use mathlib.Core.Logic.{_≢_}
-use mathlib.Core.Bool.{Bool, true, false, and-false}
+use mathlib.Core.Bool.{Bool, true, false}
 use mathlib.Core.List.{List, [], _∷_, map}
 use lib.ListN.{length, getD, take, drop}
 use lib.Seq.{drop-cons, getD-take, length-take-le}
 use Rattle.model.specs.Lists.{keep}
-use Rattle.model.specs.State.{Place, place, sameSide, samePlace}
+use Rattle.model.specs.State.{Place, place, samePlace}
 use Rattle.model.specs.Waits.{standsAt}
 use Rattle.model.specs.declared.Side.{Side}
-use Rattle.model.specs.declared.Side.the-variants.{OnSem as onSem}
+use Rattle.model.specs.declared.Side.the-variants.{OnSem as onSem, Receiving as receiving, Sending as sending}
 use Rattle.model.proofs.Lists.{no-both, eqb-no}
 use Rattle.tasks.specs.declared.task.Task.{Task}
 use Rattle.tasks.specs.View.{noTask, waiterOf, waiterAt}
@@ -66,6 +66,11 @@ module _ (ts : List Task) (p : Place) where
 
 -- only a task in the array stands anywhere
 pub stands-low : (ts : List Task) (d : Side) (n i : ℕ) → standsIn ts (place d (suc n)) i ≡ true → i < length ts
-stands-low [] d n i e = absurd (no-both e (rw (eqb-no (suc n) 0 (λ q. omega arith)) (and-false (sameSide d onSem))))
+stands-low [] d n i e = go d e
+  where
+    go : (d : Side) → standsIn [] (place d (suc n)) i ≡ true → i < 0
+    go onSem e = absurd (no-both e (eqb-no (suc n) 0 (λ q. omega arith)))
+    go receiving e = absurd (no-both e refl)
+    go sending e = absurd (no-both e refl)
 stands-low (x ∷ ts) d n zero e = omega arith
 stands-low (x ∷ ts) d n (suc i) e = let h = stands-low ts d n i e in omega arith

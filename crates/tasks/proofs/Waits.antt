@@ -10,8 +10,9 @@ use Rattle.arrays.specs.Pad.{index}
 use Rattle.model.specs.Lists.{consIf, keep, All}
 use Rattle.model.specs.State.{Waiter, waiter}
 use Rattle.model.specs.Waits.{isOther, absent}
-use Rattle.model.specs.Conditions.{Distinct, Plain}
+use Rattle.model.specs.Conditions.{Distinct, Plain, WordFits}
 use Rattle.model.specs.declared.Side.{Side}
+use Rattle.model.specs.declared.Side.the-variants.{OnSem as onSem, Receiving as receiving, Sending as sending}
 use Rattle.model.proofs.Lists.{eq-of, eqb-same, eqb-no, eqb-sym, and-left, and-right}
 use Rattle.tasks.specs.declared.task.Wait.the-variants.{Ready}
 use Rattle.tasks.specs.View.{waiterOf}
@@ -29,7 +30,12 @@ number-back (suc n) h = refl
 
 -- ---- ready or not
 busy-in : (e : Waiter) → isReady (waitIn e) ≡ false
-busy-in e = refl
+busy-in e = go (e .place .side)
+  where
+    go : (d : Side) → isReady (waitAs d (e .place .number) (e .word)) ≡ false
+    go onSem = refl
+    go receiving = refl
+    go sending = refl
 
 -- a task is ready where it is none of those who wait
 pub ready-absent : (t : ℕ) (l : List Waiter) → isReady (waitFor t l) ≡ absent t l
@@ -69,11 +75,13 @@ wait-stays u t (x ∷ l) n = go (eqb t (x .task)) refl (wait-stays u t l n)
     go false e h = ap (pick (eqb u (x .task)) (waitIn x)) h
 
 -- ---- a waiting task, read back from what it does
-waiter-as : (t : ℕ) (d : Side) (k w : ℕ) → k ≢ 0 → waiterOf t (waitAs d k w) ≡ waiter t d k w
-waiter-as t d k w h = let b = number-back k h in λ i. waiter t d (b i) w
+waiter-as : (t : ℕ) (d : Side) (k w : ℕ) → k ≢ 0 → WordFits d w → waiterOf t (waitAs d k w) ≡ waiter t d k w
+waiter-as t onSem k w h p = let b = number-back k h in λ i. waiter t onSem (b i) (sym p i)
+waiter-as t receiving k w h p = let b = number-back k h in λ i. waiter t receiving (b i) (sym p i)
+waiter-as t sending k w h p = let b = number-back k h in λ i. waiter t sending (b i) w
 
 pub waiter-back : (t : ℕ) (e : Waiter) → t ≡ e .task → Plain e → waiterOf t (waitIn e) ≡ e
-waiter-back t e h p = waiter-as t (e .place .side) (e .place .number) (e .word) (p .0) ∙ (λ i. waiter (h i) (e .place .side) (e .place .number) (e .word))
+waiter-back t e h p = waiter-as t (e .place .side) (e .place .number) (e .word) (p .0) (p .1) ∙ (λ i. waiter (h i) (e .place .side) (e .place .number) (e .word))
 
 -- each of those who wait does what its own element says
 abbrev pub Own : List Waiter → Waiter → Type 0

@@ -9,14 +9,17 @@ use Rattle.arrays.specs.Pad.{pad, index}
 use Rattle.itron.specs.Limits.{maxTasks}
 use Rattle.model.specs.State.{Waiter}
 use Rattle.model.specs.declared.Side.{Side}
+use Rattle.model.specs.declared.Side.the-variants.{OnSem as onSem, Receiving as receiving, Sending as sending}
 use Rattle.tasks.specs.declared.task.Wait.{Wait}
-use Rattle.tasks.specs.declared.task.Wait.the-variants.{Ready, At}
+use Rattle.tasks.specs.declared.task.Wait.the-variants.{Ready, OnSem, Receiving, Sending}
 use Rattle.tasks.specs.declared.task.Task.{Task}
 use Rattle.tasks.specs.declared.state.Tasks.{Tasks}
 use Rattle.tasks.specs.View.{noTask}
 
 abbrev pub waitAs : Side → ℕ → ℕ → Wait
-waitAs d n w = At d (index n) w
+waitAs onSem n w = OnSem (index n)
+waitAs receiving n w = Receiving (index n)
+waitAs sending n w = Sending (index n) w
 
 abbrev pub waitIn : Waiter → Wait
 waitIn e = waitAs (e .place .side) (e .place .number) (e .word)

@@ -8,9 +8,9 @@ use lib.ListN.{length}
 use Rattle.itron.specs.Limits.{maxTasks}
 use Rattle.model.specs.State.{Waiter}
 use Rattle.model.specs.Waits.{absent}
-use Rattle.model.specs.Conditions.{WaitsFit, WordFits}
+use Rattle.model.specs.Conditions.{WaitsFit}
 use Rattle.tasks.specs.declared.task.Wait.{Wait}
-use Rattle.tasks.specs.declared.task.Wait.the-variants.{Ready, At}
+use Rattle.tasks.specs.declared.task.Wait.the-variants.{Ready, OnSem, Receiving, Sending}
 use Rattle.tasks.specs.declared.state.Tasks.{Tasks}
 use Rattle.tasks.specs.View.{domainsOf, waitsOf}
 use Rattle.tasks.specs.Form.{tasksAs}
@@ -24,12 +24,9 @@ pub record Held (t : Tasks) : Type 0 where
 
 abbrev pub isReady : Wait → Bool
 isReady Ready = true
-isReady (At d k w) = false
-
--- it waits, with a word only where one is brought
-abbrev pub Waiting : Wait → Type 0
-Waiting Ready = ⊥
-Waiting (At d k w) = WordFits d w
+isReady (OnSem k) = false
+isReady (Receiving k) = false
+isReady (Sending k w) = false
 
 -- the task with an index is registered and does not wait
 pub record Free (ds : List ℤ) (ws : List Waiter) (task : ℕ) : Type 0 where

@@ -4,9 +4,9 @@ use mathlib.Core.List.{List, map}
 use lib.IntN.{ℤ, pos}
 use lib.ListN.{getD, take}
 use Rattle.model.specs.State.{Waiter, waiter}
-use Rattle.model.specs.declared.Side.the-variants.{OnSem as onSem}
+use Rattle.model.specs.declared.Side.the-variants.{OnSem as onSem, Receiving as receiving, Sending as sending}
 use Rattle.tasks.specs.declared.task.Wait.{Wait}
-use Rattle.tasks.specs.declared.task.Wait.the-variants.{Ready, At}
+use Rattle.tasks.specs.declared.task.Wait.the-variants.{Ready, OnSem, Receiving, Sending}
 use Rattle.tasks.specs.declared.task.Task.{Task}
 use Rattle.tasks.specs.declared.state.Tasks.{Tasks}
 
@@ -21,7 +21,9 @@ withWait t w = record { domain = t .domain; wait = w }
 -- a waiting task: its number, where it waits, and its word
 abbrev pub waiterOf : ℕ → Wait → Waiter
 waiterOf t Ready = waiter t onSem 0 0
-waiterOf t (At d k w) = waiter t d (suc k) w
+waiterOf t (OnSem k) = waiter t onSem (suc k) 0
+waiterOf t (Receiving k) = waiter t receiving (suc k) 0
+waiterOf t (Sending k w) = waiter t sending (suc k) w
 
 abbrev pub waiterAt : List Task → ℕ → Waiter
 waiterAt ts i = waiterOf (suc i) (getD ts i noTask .wait)

@@ -1,5 +1,6 @@
 // All tasks, and those of them who wait in the order in which they began to.
 ghost use mathlib.Core.Path.{_≡_};
+ghost use mathlib.Core.Bool.{false};
 ghost use mathlib.Core.List.{[], _∷_, _++_};
 ghost use Prim.Native.Nat.{suc, _<_};
 ghost use lib.ListN.{length};
@@ -7,7 +8,7 @@ ghost use Rattle.itron.specs.Limits.{maxTasks};
 ghost use Rattle.model.specs.Waits.{leave, join};
 ghost use Rattle.tasks.specs.View.{domainsOf, waitsOf, waiterOf};
 ghost use Rattle.tasks.specs.Form.{tasksAs};
-ghost use Rattle.tasks.specs.Held.{Held, Free, Waiting};
+ghost use Rattle.tasks.specs.Held.{Held, Free, isReady};
 ghost use Rattle.tasks.specs.Ends.{taskOf};
 use crate::order;
 use crate::task::Task;
@@ -99,7 +100,7 @@ impl Tasks {
 
     // A ready task waits, the last of all.
     pub(crate) fn join(mut self, task: usize, wait: Wait) -> Tasks
-        requires { ⌜ Held self × Free (domainsOf self) (waitsOf self) task × Waiting wait ⌝ }
+        requires { ⌜ Held self × Free (domainsOf self) (waitsOf self) task × (isReady wait ≡ false) ⌝ }
         ensures { λ r. ⌜ r ≡ tasksAs (domainsOf self) (join (waiterOf (suc task) wait) (waitsOf self)) ⌝ }
     {
         let at = self.waiting;

@@ -1,13 +1,14 @@
 // One task.
 ghost use mathlib.Core.Path.{_≡_};
 ghost use Rattle.tasks.specs.View.{withWait};
-use model::Side;
 
-// What a task does: ready, or waiting at a side of the object with an index, with a word if it brings one. An index is a number less 1; indexes of tasks and objects
+// What a task does: ready, or waiting with the index of its object. An index is a number less 1; indexes of tasks and objects
 // are kept as bytes, since the whole state is copied by every call.
 pub enum Wait {
     Ready,
-    At(Side, u8, u32),
+    OnSem(u8),
+    Receiving(u8),
+    Sending(u8, u32),
 }
 
 pub struct Task {

@@ -1,12 +1,13 @@
 // Wait queues: who is first at a place, who calls, who is woken and who begins to wait.
 ghost use mathlib.Core.Path.{_≡_};
+ghost use mathlib.Core.Bool.{false};
 ghost use mathlib.Core.List.{[], map};
 ghost use Prim.Native.Nat.{ℕ, suc, _<_};
 ghost use lib.ListN.{length, getD};
 ghost use Rattle.model.specs.State.{place, samePlace, sideNumber, no};
 ghost use Rattle.model.specs.Waits.{waitersIn, firstTask, orWaits};
 ghost use Rattle.tasks.specs.View.{domainsOf, waitsOf, waiterOf, noTask};
-ghost use Rattle.tasks.specs.Held.{Held, Free, Waiting};
+ghost use Rattle.tasks.specs.Held.{Held, Free, isReady};
 ghost use Rattle.tasks.specs.Ends.{firstOf, taskIn, callerOf, endedOf, wokenOf};
 use crate::state::Tasks;
 use crate::task::Task;
@@ -77,7 +78,9 @@ pub(crate) fn waits_at(wait: Wait, side: Side, object: usize) -> bool
 {
     match wait {
         Wait::Ready => false,
-        Wait::At(at, k, _) => is_same(side, object, at, k),
+        Wait::OnSem(k) => is_same(side, object, Side::OnSem, k),
+        Wait::Receiving(k) => is_same(side, object, Side::Receiving, k),
+        Wait::Sending(k, _) => is_same(side, object, Side::Sending, k),
     }
 }
 
@@ -86,8 +89,8 @@ pub(crate) fn word_of(wait: Wait) -> u32
     ensures { λ r. ⌜ r ≡ waiterOf 0 wait .word ⌝ }
 {
     match wait {
-        Wait::At(_, _, word) => word,
-        Wait::Ready => 0,
+        Wait::Sending(_, word) => word,
+        _ => 0,
     }
 }
 
@@ -179,7 +182,7 @@ impl Tasks {
 
     // The caller waits, if it has the patience.
     pub fn or_wait(self, task: usize, wait: Wait, patience: Patience) -> Ended
-        requires { ⌜ Held self × Free (domainsOf self) (waitsOf self) task × Waiting wait ⌝ }
+        requires { ⌜ Held self × Free (domainsOf self) (waitsOf self) task × (isReady wait ≡ false) ⌝ }
         ensures { λ r. ⌜ r ≡ endedOf (domainsOf self) (orWaits {R = ℕ} (waitsOf self) [] patience (waiterOf (suc task) wait)) ⌝ }
     {
         match patience {

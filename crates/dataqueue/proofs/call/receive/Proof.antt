@@ -42,8 +42,8 @@ ended-requires c κs = search needs
 enum-told : tie.Need-enum-told
 enum-told c = search needs
 
-cast-t19 : tie.Need-cast-t19
-cast-t19 c = search needs
+cast-t18 : tie.Need-cast-t18
+cast-t18 c = search needs
 
 or-wait-requires : tie.Need-or-wait-requires
 or-wait-requires c κs = search needs
@@ -142,7 +142,7 @@ receive-spec =
     wake-requires
     ended-requires
     enum-told
-    cast-t19
+    cast-t18
     or-wait-requires
     ended-requires-2
     returns

@@ -56,8 +56,8 @@ push-requires c κs =
 done-requires : tie.Need-done-requires
 done-requires c κs = search needs
 
-cast-t17 : tie.Need-cast-t17
-cast-t17 c = search needs
+cast-t16 : tie.Need-cast-t16
+cast-t16 c = search needs
 
 or-wait-requires : tie.Need-or-wait-requires
 or-wait-requires c κs = search needs
@@ -100,7 +100,7 @@ send-spec =
     has-room-requires
     push-requires
     done-requires
-    cast-t17
+    cast-t16
     or-wait-requires
     ended-requires-2
     returns

@@ -30,8 +30,8 @@ returns c =
     c .done .ensures ∙ ap (λ (s : Semaphores). doneWith (a .tasks) s 0) (c .before .put .ensures)
     ∙ acquire-takes (b .pre .0) (b .pre .1) (a .object) _ (g .get .ensures) (a .task) (a .patience) (t .if1 .taken)
 
-cast-t11 : tie.Need-cast-t11
-cast-t11 c =
+cast-t10 : tie.Need-cast-t10
+cast-t10 c =
     let b = c .before .before .before in
     let n = count-seen (b .pre .1) in
     let f = b .pre .1 .few in
@@ -62,7 +62,7 @@ acquire-spec =
     put-requires
     done-requires
     returns
-    cast-t11
+    cast-t10
     or-wait-requires
     ended-requires
     returns-2)

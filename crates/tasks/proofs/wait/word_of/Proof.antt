@@ -7,14 +7,11 @@ use Rattle.tasks.proofs.wait.word_of.Tie as tie
 enum-known-wait : tie.Need-enum-known-wait
 enum-known-wait c = search needs
 
-enum-told : tie.Need-enum-told
-enum-told c = search needs
-
 returns : tie.Need-returns
 returns c = search needs
 
 returns-2 : tie.Need-returns-2
-returns-2 c = no-word (c .before .before .args .wait) (c .before .match .keys2)
+returns-2 c = no-word (c .before .args .wait) (c .match .keys2)
 
 pub word-of-spec : {M : Type 1} → statement M
-word-of-spec = tie.close (tie.spec enum-known-wait enum-told returns returns-2)
+word-of-spec = tie.close (tie.spec enum-known-wait returns returns-2)

@@ -38,9 +38,6 @@ element-copy-out-entry c = let a = c .before .before in omega (arith, number (c 
 enum-told : tie.Need-enum-told
 enum-told c = search needs
 
-enum-told-2 : tie.Need-enum-told-2
-enum-told-2 c = search needs
-
 returns-2 : tie.Need-returns-2
 returns-2 c =
     let p = c .before .before .before .before .before in
@@ -52,9 +49,9 @@ returns-2 c =
 
 returns-3 : tie.Need-returns-3
 returns-3 c =
-    let p = c .before .before .before .before in
+    let p = c .before .before .before in
     let b = p .before in
-    caller-busy (b .pre) (b .args .number) (p .ordinal .result) (number p) (c .before .before .before .if1 .left) (busy (getD (b .args .t1 .entries) (p .ordinal .result - 1) noTask .wait) (c .before .match .keys2))
+    caller-busy (b .pre) (b .args .number) (p .ordinal .result) (number p) (c .before .before .if1 .left) (busy (getD (b .args .t1 .entries) (p .ordinal .result - 1) noTask .wait) (c .match .keys2))
 
 pub caller-spec : {M : Type 1} → statement M
 caller-spec =
@@ -66,6 +63,5 @@ caller-spec =
     mul-entry
     element-copy-out-entry
     enum-told
-    enum-told-2
     returns-2
     returns-3)
