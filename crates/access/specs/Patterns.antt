@@ -1,18 +1,13 @@
 -- Patterns: which domains a pattern admits (document 01, "Patterns and vectors"). Definitions only.
 use Prim.Native.Nat.{ℕ, zero, suc, _-_, _^_, _/_, _%_}
-use mathlib.Core.Bool.{Bool, true, false, _&&_}
+use mathlib.Core.Bool.{Bool, true, false, cond, _&&_}
 use lib.IntN.{ℤ, pos, negsuc}
 use lib.Dec.{leb, ltb, eqb}
 use Rattle.itron.specs.Limits.{maxDomains}
 
--- the first of two values where the test holds, else the second
-abbrev pub pick : {A : Type 0} → Bool → A → A → A
-pick true a b = a
-pick false a b = b
-
 -- a number from 1 to the limit, as it is; 0 of any other
 unfoldable pub ordinalOf : ℤ → ℕ → ℕ
-ordinalOf (pos k) limit = pick (leb k limit) k 0
+ordinalOf (pos k) limit = cond (leb k limit) k 0
 ordinalOf (negsuc k) limit = 0
 
 -- whether two domain numbers are the same

@@ -3,7 +3,7 @@ use Prim.Native.Nat.{ℕ, zero, suc, _<_}
 use native.Mathlib.Omega.{arith}
 use mathlib.Core.Path.{_≡_, refl, sym, ap, _∙_}
 use mathlib.Core.Logic.{_≢_}
-use mathlib.Core.Bool.{Bool, true, false, not, _&&_}
+use mathlib.Core.Bool.{Bool, true, false, cond, not, _&&_}
 use mathlib.Core.List.{[], _∷_}
 use mathlib.Core.Option.{Option, none, some}
 use lib.Dec.{leb}
@@ -11,7 +11,6 @@ use lib.IntN.{ℤ}
 use lib.ListN.{length}
 use types.Run.{OneOf}
 use denote.Enum.Declared.{tagOf}
-use Rattle.access.specs.Patterns.{pick}
 use Rattle.access.specs.Vectors.{patternOf}
 use Rattle.arrays.specs.Pad.{index}
 use Rattle.itron.specs.Codes.{Err, eCtx, eId, ePar, eNoexs, eOacv, numberOf}
@@ -55,12 +54,12 @@ module _ {C R : Type 0} (r : Room C R) (m : Model.State) (t n : ℕ) (a : Act C)
   abbrev may : Bool
   may = admits (domainAt m t) (patternOf (vectorAt r m n) (operationOf (r .operation) a))
 
-  by-may : (b : Bool) → pick b (Admitted (index t) (index n)) (Refused (numberOf eOacv)) ≡ checked (refuseIf (not b) eOacv none) t n
+  by-may : (b : Bool) → cond b (Admitted (index t) (index n)) (Refused (numberOf eOacv)) ≡ checked (refuseIf (not b) eOacv none) t n
   by-may true = refl
   by-may false = refl
 
   by-tests : (ready here there : Bool)
-      → checkedBy (pick ready (Caller.Ready (index t) (domainAt m t)) Caller.Nobody) (operationOf (r .operation) a) (pick here (pick there (At (index n) (vectorAt r m n)) Missing) OutOfRange)
+      → checkedBy (cond ready (Caller.Ready (index t) (domainAt m t)) Caller.Nobody) (operationOf (r .operation) a) (cond here (cond there (At (index n) (vectorAt r m n)) Missing) OutOfRange)
       ≡ checked (refuseIf (not ready) eCtx (refuseIf (not here) eId (refuseIf (not there) eNoexs (refuseIf (not may) eOacv none)))) t n
   by-tests false here there = refl
   by-tests true false there = refl

@@ -1,10 +1,10 @@
 -- What the kernel's private functions give; no promise cites it. Definitions only.
 use Prim.Native.Nat.{ℕ, zero, suc}
-use mathlib.Core.Bool.{Bool, true, not, _&&_}
+use mathlib.Core.Bool.{Bool, true, cond, not, _&&_}
 use mathlib.Core.Option.{Option, none, some}
 use lib.Dec.{ltb}
 use lib.IntN.{ℤ, pos, negsuc}
-use Rattle.access.specs.Patterns.{pick, admitted}
+use Rattle.access.specs.Patterns.{admitted}
 use Rattle.access.specs.Vectors.{patternOf}
 use Rattle.access.specs.declared.vector.Operation.{Operation}
 use Rattle.arrays.specs.Pad.{index}
@@ -46,14 +46,14 @@ shut s = record { domains = s .domains; closed = true; tasks = s .tasks; semapho
 -- ---- the checks
 -- a registered ready task of a closed table
 abbrev pub callerIn : Model.State → ℕ → Caller
-callerIn m t = pick (m .fixed .closed && ready m t) (Caller.Ready (index t) (domainAt m t)) Caller.Nobody
+callerIn m t = cond (m .fixed .closed && ready m t) (Caller.Ready (index t) (domainAt m t)) Caller.Nobody
 
 -- first hit wins: who calls, which object, and whether the caller's domain is admitted
 abbrev pub checkedBy : Caller → Operation → Target → Check
 checkedBy Caller.Nobody o x = Refused (numberOf eCtx)
 checkedBy (Caller.Ready t d) o OutOfRange = Refused (numberOf eId)
 checkedBy (Caller.Ready t d) o Missing = Refused (numberOf eNoexs)
-checkedBy (Caller.Ready t d) o (At n v) = pick (admitted (patternOf v o) d) (Admitted t n) (Refused (numberOf eOacv))
+checkedBy (Caller.Ready t d) o (At n v) = cond (admitted (patternOf v o) d) (Admitted t n) (Refused (numberOf eOacv))
 
 -- a refusal's code, or the indexes of the task t and of the object n
 abbrev pub checked : Option Err → ℕ → ℕ → Check

@@ -1,14 +1,14 @@
 -- The memory verdict (document 01): its sentences, each by plain facts of the table
 use mathlib.Core.Path.{_≡_, refl, sym, ap, _∙_, subst}
 use mathlib.Core.Logic.{_≢_, _⊎_, inl, inr}
-use mathlib.Core.Bool.{Bool, true, false, not}
+use mathlib.Core.Bool.{Bool, true, false, cond, not}
 use mathlib.Core.List.{List, [], _∷_, _++_}
 use mathlib.Core.Option.{none, some}
 use Prim.Native.Nat.{ℕ, zero, suc, _+_, _≤_, _<_, _/_, _%_}
 use native.Mathlib.Omega.{arith}
 use native.Mathlib.Nat.{div-one}
 use lib.IntN.{ℤ, pos, negsuc}
-use Rattle.access.specs.Patterns.{pick, admitted, bitAt}
+use Rattle.access.specs.Patterns.{admitted, bitAt}
 use Rattle.itron.specs.Codes.{eCtx, eId, ePar, eNoexs, eObj, eMacv}
 use Rattle.itron.specs.Limits.{addressEnd}
 use Rattle.model.specs.Answers.{refuseIf}
@@ -94,13 +94,13 @@ unfolding fromHolder
 holder-at rs a r h = ap (λ (l : List Region). fromHolder l a) (h .split) ∙ go (h .before) (h .others)
   where
     go : (l : List Region) → All (λ (x : Region). Holds a x → ⊥) l → fromHolder (l ++ (r ∷ h .behind)) a ≡ r ∷ h .behind
-    go [] k = ap (λ (b : Bool). pick b (r ∷ h .behind) (fromHolder (h .behind) a)) (Tests.holds (holds-tells a r) (h .here))
-    go (x ∷ l) k = let m = l ++ (r ∷ h .behind) in ap (λ (b : Bool). pick b (x ∷ m) (fromHolder m a)) (Tests.fails (holds-tells a x) (k .0)) ∙ go l (k .1)
+    go [] k = ap (λ (b : Bool). cond b (r ∷ h .behind) (fromHolder (h .behind) a)) (Tests.holds (holds-tells a r) (h .here))
+    go (x ∷ l) k = let m = l ++ (r ∷ h .behind) in ap (λ (b : Bool). cond b (x ∷ m) (fromHolder m a)) (Tests.fails (holds-tells a x) (k .0)) ∙ go l (k .1)
 
 holder-none : (rs : List Region) (a : ℕ) → All (λ (x : Region). Holds a x → ⊥) rs → fromHolder rs a ≡ []
 unfolding fromHolder
 holder-none [] a k = refl
-holder-none (x ∷ rs) a k = ap (λ (b : Bool). pick b (x ∷ rs) (fromHolder rs a)) (Tests.fails (holds-tells a x) (k .0)) ∙ holder-none rs a (k .1)
+holder-none (x ∷ rs) a k = ap (λ (b : Bool). cond b (x ∷ rs) (fromHolder rs a)) (Tests.fails (holds-tells a x) (k .0)) ∙ holder-none rs a (k .1)
 
 -- ---- the verdict on a table s, asked for a domain, an area and wishes; first hit wins
 module _ (s : State) (d : ℤ) (base size w : ℕ) where
@@ -173,7 +173,7 @@ unfolding fromHolder
 holder-is [] a r l h = absurd (let z : _≡_ {A = ℕ} 0 1 = cc in omega arith)
 holder-is (x ∷ rs) a r l h = go (holds a x) refl (holder-is rs a r l) h
   where
-    go : (b : Bool) → holds a x ≡ b → (fromHolder rs a ≡ r ∷ l → (h : At rs a r) × (h .behind ≡ l)) → pick b (x ∷ rs) (fromHolder rs a) ≡ r ∷ l → (h : At (x ∷ rs) a r) × (h .behind ≡ l)
+    go : (b : Bool) → holds a x ≡ b → (fromHolder rs a ≡ r ∷ l → (h : At rs a r) × (h .behind ≡ l)) → cond b (x ∷ rs) (fromHolder rs a) ≡ r ∷ l → (h : At (x ∷ rs) a r) × (h .behind ≡ l)
     go true e f k =
         let q : x ≡ r = cc in
         (record { before = []; behind = rs; split = ap (λ (y : Region). y ∷ rs) q; others = tt; here = subst (λ (y : Region). Holds a y) q (holds-tells a x .yes e) }, cc)
