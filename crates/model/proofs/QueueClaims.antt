@@ -1,7 +1,7 @@
 -- What one data queue sees of a call, and its part of demand 3 after any list of calls. Assumes nothing.
 use mathlib.Core.Path.{_≡_, refl, sym, ap, _∙_, subst}
 use mathlib.Core.Logic.{_≢_, inl}
-use mathlib.Core.Bool.{Bool, true, false, not}
+use mathlib.Core.Bool.{Bool, true, false, cond, not}
 use mathlib.Core.List.{List, [], _∷_, _++_, map, append-assoc, append-nil}
 use mathlib.Core.Option.{Option, none, some}
 use Prim.Native.Nat.{ℕ, zero, suc, _≤_}
@@ -20,7 +20,7 @@ use Rattle.model.specs.Acts.{Act, own, refer, setVector, ofOwn}
 use Rattle.model.specs.Rooms.{check, actOn, Asks, onObject}
 use Rattle.model.specs.Queues as Queues
 use Rattle.model.specs.Queues.{QueueCall, send, receive, room}
-use Rattle.model.specs.QueueClaims.{askedOf, byQueue, sent, sentIn, handed, Sender, sendIn, notTask, unreleased, waitingSends, senderOf, choose, maySend, mayReceive, SentAllowed, began, IsReceive, Came, TakenIn, TakenAllowed, Carried}
+use Rattle.model.specs.QueueClaims.{askedOf, byQueue, sent, sentIn, handed, Sender, sendIn, notTask, unreleased, waitingSends, senderOf, maySend, mayReceive, SentAllowed, began, IsReceive, Came, TakenIn, TakenAllowed, Carried}
 use Rattle.model.specs.Calls.{Op, onSemaphore, onQueue, Call, asks, step}
 use Rattle.model.specs.Conditions.{QueuesFit}
 use Rattle.model.specs.History.{History, event, Made, seenBy, after, history, askedIf, ofAsked, vectorSince, vectorBy, joined, without, pending}
@@ -105,7 +105,7 @@ module _ (s₀ s : State) (h : History) (i : Inv s₀ s h) where
         → All (λ (e : Waiter). Arrived (e .task) (byQueue q h)) l → All (λ (e : Waiter). Arrived (e .task) (m ∷ byQueue q h)) l
     still m [] w f k = tt
     still m (x ∷ l) w f k = (
-      subst (λ (b : Bool). choose b (ofAsked ⊥ IsReceive (m .asked) × T (mayReceive (domainAt s₀) (queueAt s₀ q .vector) (x .task) (byQueue q h))) (Arrived (x .task) (byQueue q h))) (sym other) (k .0),
+      subst (λ (b : Bool). cond b (ofAsked ⊥ IsReceive (m .asked) × T (mayReceive (domainAt s₀) (queueAt s₀ q .vector) (x .task) (byQueue q h))) (Arrived (x .task) (byQueue q h))) (sym other) (k .0),
       still m l w (and-right (isOther (m .caller) x) (absent (m .caller) l) f) (k .1),
     )
       where
@@ -168,7 +168,7 @@ module _ (s₀ s : State) (h : History) (i : Inv s₀ s h) where
 
           new : standsAt (place receiving q) e ≡ true → Arrived (e .task) (m ∷ byQueue q h)
           new y = let r = subst (λ (l : List Waiter). All (λ (x : Waiter). standsAt (place receiving q) x ≡ true → Receives t (askedOf q op)) l) b (begun t op p) .0 y in
-              subst (λ (k : Bool). choose k (ofAsked ⊥ IsReceive (m .asked) × T (mayReceive (domainAt s₀) (queueAt s₀ q .vector) (e .task) (byQueue q h))) (Arrived (e .task) (byQueue q h)))
+              subst (λ (k : Bool). cond k (ofAsked ⊥ IsReceive (m .asked) × T (mayReceive (domainAt s₀) (queueAt s₀ q .vector) (e .task) (byQueue q h))) (Arrived (e .task) (byQueue q h)))
               (sym newest)
               (rw g (r .0), rw z (r .1))
 
