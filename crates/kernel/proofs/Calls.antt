@@ -15,8 +15,8 @@ use Rattle.model.specs.Semaphores as Semaphores
 use Rattle.model.specs.Queues as Queues
 use Rattle.model.specs.Calls.{Op, Call, call, asks, actIf, step}
 use Rattle.model.proofs.Refers.{refer-state}
-use Rattle.tasks.specs.declared.check.Check.{Check}
-use Rattle.tasks.specs.declared.check.Check.the-variants.{Refused, Admitted}
+use Rattle.model.specs.declared.check.Check.{Check}
+use Rattle.model.specs.declared.check.Check.the-variants.{Refused, Admitted}
 use Rattle.semaphore.specs.declared.call.Effect as SemaphoreEffect
 use Rattle.semaphore.specs.Effects as SemaphoreEffects
 use Rattle.dataqueue.specs.declared.call.Effect as QueueEffect

@@ -12,28 +12,28 @@ use lib.ListN.{length}
 use types.Run.{OneOf}
 use denote.Enum.Declared.{tagOf}
 use Rattle.access.specs.Vectors.{patternOf}
-use Rattle.arrays.specs.Pad.{index}
 use Rattle.itron.specs.Codes.{Err, eCtx, eId, ePar, eNoexs, eOacv, numberOf}
+use Rattle.model.specs.Lists.{index}
 use Rattle.model.specs.State as Model
 use Rattle.model.specs.State.{domainAt, no}
 use Rattle.model.specs.Answers.{refuseIf}
 use Rattle.model.specs.Acts.{Act, operationOf, clear}
 use Rattle.model.specs.Rooms.{Room, ready, inRange, admits, vectorAt, slotsOf, check}
+use Rattle.model.specs.Checks.{targetIn, checked}
 use Rattle.model.specs.Waits.{absent}
 use Rattle.model.proofs.Rooms.{passed}
-use Rattle.tasks.specs.declared.check.Check.{Check}
-use Rattle.tasks.specs.declared.check.Check.the-variants.{Refused, Admitted}
-use Rattle.tasks.specs.declared.check.Target.{Target}
-use Rattle.tasks.specs.declared.check.Target.the-variants.{OutOfRange, Missing, At}
+use Rattle.model.specs.declared.check.Check.{Check}
+use Rattle.model.specs.declared.check.Check.the-variants.{Refused, Admitted}
+use Rattle.model.specs.declared.check.Target.{Target}
+use Rattle.model.specs.declared.check.Target.the-variants.{OutOfRange, Missing, At}
 use Rattle.tasks.specs.declared.wait.Caller.{Caller}
 use Rattle.tasks.specs.declared.wait.Caller.the-variants as Caller
-use Rattle.tasks.proofs.check.Target.{the-type as target-type}
+use Rattle.model.proofs.check.Target.{the-type as target-type}
 use Rattle.tasks.proofs.wait.Caller.{the-type as caller-type}
-use Rattle.tasks.specs.Checks.{targetIn, Passed}
-use Rattle.tasks.specs.Held.{Free}
+use Rattle.tasks.specs.Held.{Free, Passed}
 use Rattle.kernel.specs.declared.state.State.{State}
 use Rattle.kernel.specs.View.{viewOf}
-use Rattle.kernel.specs.Inside.{callerIn, checkedBy, checked, checkOf}
+use Rattle.kernel.specs.Inside.{callerIn, checkedBy, checkOf}
 
 pub nobody : (w : Caller) → OneOf (0 ∷ []) (tagOf caller-type w) → w ≡ Caller.Nobody
 nobody Caller.Nobody t = refl

@@ -9,10 +9,10 @@ use mathlib.Core.List.{List, [], _∷_, _++_, map, append-nil}
 use lib.Dec.{eqb}
 use lib.ListN.{length, getD, take, set, length-append}
 use lib.Seq.{take-suc}
-use Rattle.arrays.specs.Pad.{pad, index}
+use Rattle.arrays.specs.Pad.{pad}
 use Rattle.arrays.proofs.Pads.{pad-snoc}
 use Rattle.itron.specs.Limits.{maxTasks}
-use Rattle.model.specs.Lists.{consIf, keep, All}
+use Rattle.model.specs.Lists.{index, consIf, keep, All}
 use Rattle.model.specs.State.{Waiter}
 use Rattle.model.specs.Waits.{isOther}
 use Rattle.model.specs.Conditions.{Known}

@@ -5,8 +5,7 @@ use mathlib.Core.Logic.{_≢_}
 use mathlib.Core.Bool.{Bool, true, false, cond, not, _&&_}
 use mathlib.Core.List.{List, [], _∷_, _++_}
 use lib.Dec.{eqb}
-use Rattle.arrays.specs.Pad.{index}
-use Rattle.model.specs.Lists.{consIf, keep, All}
+use Rattle.model.specs.Lists.{index, consIf, keep, All}
 use Rattle.model.specs.State.{Waiter, waiter}
 use Rattle.model.specs.Waits.{isOther, absent}
 use Rattle.model.specs.Conditions.{Distinct, Plain, WordFits}

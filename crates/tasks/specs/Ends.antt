@@ -5,9 +5,8 @@ use mathlib.Core.List.{List, [], _∷_}
 use lib.Dec.{eqb, leb}
 use lib.IntN.{ℤ, pos}
 use lib.ListN.{length}
-use Rattle.arrays.specs.Pad.{index}
 use Rattle.itron.specs.Codes.{okNumber}
-use Rattle.model.specs.Lists.{at}
+use Rattle.model.specs.Lists.{index, at}
 use Rattle.model.specs.State.{Waiter}
 use Rattle.model.specs.Answers.{Effect, replyOf}
 use Rattle.model.specs.Waits.{absent, leave}

@@ -5,8 +5,9 @@ use mathlib.Core.List.{List, [], _∷_, map}
 use lib.Dec.{eqb}
 use lib.IntN.{ℤ}
 use lib.ListN.{length}
-use Rattle.arrays.specs.Pad.{pad, index}
+use Rattle.arrays.specs.Pad.{pad}
 use Rattle.itron.specs.Limits.{maxTasks}
+use Rattle.model.specs.Lists.{index}
 use Rattle.model.specs.State.{Waiter}
 use Rattle.model.specs.declared.Side.{Side}
 use Rattle.model.specs.declared.Side.the-variants.{OnSem as onSem, Receiving as receiving, Sending as sending}

@@ -3,7 +3,7 @@ use mathlib.Core.Path.{sym, ap, _∙_}
 use borrow.Author.Tests.{not-true, not-false}
 use mir.Facts.{toZ-ofZ}
 use mathlib.Core.Bool.{Bool, cond, _&&_}
-use Rattle.arrays.specs.Pad.{index}
+use Rattle.model.specs.Lists.{index}
 use Rattle.model.specs.State.{domainAt}
 use Rattle.model.specs.State.{no}
 use Rattle.model.specs.Rooms.{ready}

@@ -8,8 +8,8 @@ use Rattle.access.specs.Patterns.{ordinalOf}
 use Rattle.itron.specs.Limits.{maxSemaphores}
 use Rattle.model.specs.Semaphores.{room}
 use Rattle.model.specs.declared.sem.Semaphore.{Semaphore}
-use Rattle.tasks.specs.declared.check.Target.the-variants.{At}
-use Rattle.tasks.proofs.Targets.{out-of-range, missing, found}
+use Rattle.model.specs.declared.check.Target.the-variants.{At}
+use Rattle.model.proofs.Targets.{out-of-range, missing, found}
 use Rattle.semaphore.specs.View.{semsOf}
 use Rattle.semaphore.proofs.Back.{count-seen}
 use Rattle.semaphore.proofs.state.Semaphores.find.Statement.{statement}
