@@ -9,9 +9,7 @@ ghost use Rattle.kernel.specs.View.{viewOf};
 ghost use Rattle.kernel.specs.Valid.{Valid};
 ghost use Rattle.kernel.specs.Answers.{summaryOf};
 use crate::state::State;
-use dataqueue::state::QueueInfo;
 use model::Side;
-use model::sem::Semaphore;
 use tasks::task::Task;
 
 // How large the table is: the number n of user domains, the protection unit, whether it is closed, and its entries by kind.

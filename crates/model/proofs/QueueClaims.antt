@@ -4,7 +4,7 @@ use mathlib.Core.Logic.{_≢_, inl}
 use mathlib.Core.Bool.{Bool, true, false, cond, not}
 use mathlib.Core.List.{List, [], _∷_, _++_, map, append-assoc, append-nil}
 use mathlib.Core.Option.{Option, none, some}
-use Prim.Native.Nat.{ℕ, zero, suc, _≤_}
+use Prim.Native.Nat.{ℕ, zero, suc}
 use native.Mathlib.Omega.{arith}
 use lib.ListN.{length, length-append}
 use lib.Dec.{eqb, T}
@@ -15,7 +15,7 @@ use Rattle.itron.specs.Codes.{Code, ok, waiting, error}
 use Rattle.model.specs.Lists.{at, keep, consIf, All, Each, words}
 use Rattle.model.specs.State.{Vector, Place, Fixed, Queue, receiving, sending, Waiter, State, place, queueAt, domainAt, waiter, setWaits, no}
 use Rattle.model.specs.Answers.{Effect, Released, Out, out, say, whenOk, whenWaiting, whenAccepted}
-use Rattle.model.specs.Waits.{Patience, standsAt, isOther, absent, join, receivers, senders}
+use Rattle.model.specs.Waits.{standsAt, isOther, absent, join, receivers, senders}
 use Rattle.model.specs.Acts.{Act, own, refer, setVector, ofOwn}
 use Rattle.model.specs.Rooms.{check, actOn, Asks, onObject}
 use Rattle.model.specs.Queues as Queues
@@ -28,10 +28,10 @@ use Rattle.model.specs.Demand3.{JustClosed}
 use Rattle.model.proofs.Lists.{absent-keep, all-keep, all-snoc, keep-append, keep-comm, eq-of, eqb-same, eqb-sym, and-left, and-right, no-both, Distinct}
 use Rattle.model.proofs.WaitQueues.{place-of}
 use Rattle.model.proofs.Fits.{queues-put, buffer-fits}
-use Rattle.model.proofs.Rooms.{roomOf, is-at, Calls, Passed, passed, Stranger, stranger, ok-same, accepted-same}
+use Rattle.model.proofs.Rooms.{roomOf, is-at, Calls, Passed, passed, stranger, ok-same, accepted-same}
 use Rattle.model.proofs.Semaphores as SemaphoreRoom
 use Rattle.model.proofs.Queues.{bare, laws, cover, flows, QView, qview-eq, qviewOf, content, QueueOk, Kept, stay}
-use Rattle.model.proofs.Cover.{Whose, mine, foreign, Sees, sees, keeps-records, entries-stay, vector-law, Endings, ends}
+use Rattle.model.proofs.Cover.{Whose, mine, foreign, sees, keeps-records, entries-stay, vector-law, Endings, ends}
 use Rattle.model.proofs.Steps.{distinct-law, fixed-law, waiters-are}
 
 -- ---- whose a call is, as the queues see it

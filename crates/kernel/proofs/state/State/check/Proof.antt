@@ -10,7 +10,6 @@ use Rattle.access.specs.Vectors.{patternOf}
 use Rattle.itron.specs.Codes.{eOacv, numberOf}
 use Rattle.model.specs.State.{no}
 use Rattle.model.specs.declared.check.Check.the-variants.{Refused, Admitted}
-use Rattle.model.specs.declared.check.Target.{Target}
 use Rattle.tasks.specs.declared.wait.Caller.{Caller}
 use Rattle.tasks.specs.declared.wait.Caller.the-variants as Caller
 use Rattle.kernel.specs.View.{viewOf}
