@@ -7,7 +7,7 @@ use lib.IntN.{ℤ, pos, negsuc, natAbs}
 use lib.Signed.{ltZ, nonNeg}
 use lib.Dec.{T, leb}
 use borrow.Author.Tests.{le-leb, lt-leb, ltb-true, ltb-false, leb-true, leb-false}
-use Rattle.access.specs.Patterns.{ordinalOf}
+use Rattle.access.specs.Domains.{ordinalOf}
 
 -- a number below 1
 pub ordinal-low : (z : ℤ) (n : ℕ) → ltZ z (pos 1) ≡ true → 0 ≡ ordinalOf z n

@@ -8,7 +8,7 @@ use lib.Dec.{eqb, leb, ltb}
 use lib.IntN.{ℤ, pos, negsuc}
 use lib.ListN.{length}
 use borrow.Author.Tests.{ltb-true, leb-true, ne-eqb}
-use Rattle.access.specs.Patterns.{ordinalOf}
+use Rattle.access.specs.Domains.{ordinalOf}
 use Rattle.access.specs.declared.vector.Choice.{Choice}
 use Rattle.itron.specs.Codes.{Err, eRsatr, ePar, eId, eCtx, eMacv, eOacv, eNomem, eNoid, eObj, eNoexs, eQovr, eTmout, numberOf, okNumber}
 use Rattle.itron.specs.Limits.{maxDomains, maxTasks, maxWords, minUnit}

@@ -9,13 +9,14 @@ use native.Mathlib.Omega.{arith}
 use lib.Dec.{eqb, leb}
 use lib.IntN.{ℤ}
 use borrow.Author.Tests.{leb-false}
-use Rattle.access.specs.Patterns.{sameDomain}
+use Rattle.access.specs.Domains.{sameDomain}
 use Rattle.access.specs.Vectors.{sameVector}
 use Rattle.itron.specs.Codes.{Err, eCtx, eId, ePar, eObj, eMacv}
 use Rattle.model.specs.Answers.{refuseIf}
 use Rattle.model.specs.State.{Region, State, setFixed, setRegions}
 use Rattle.model.specs.Regions.{end, touches, isEqual, inChain, allows, holds, fromHolder, judgeIn, areaOk, judge}
-use Rattle.model.specs.Verdict.{asks, verdict}
+use Rattle.model.specs.Table.{ownsTask}
+use Rattle.model.specs.Verdict.{verdict}
 use Rattle.model.proofs.Tests.{le-tells}
 use Rattle.model.proofs.Tests as Tests
 use Rattle.model.proofs.Chains.{Holds, Joined, Chain, joined-tells, holds-tells, chain-last, chain-on, chain-here}
@@ -120,7 +121,7 @@ pub count-as-one : (s : State) (before : List Region) (r x : Region) (behind : L
 unfolding verdict judge
 count-as-one s before r x behind j d base size w =
     ap
-    (λ (o : Option Err). refuseIf (not (s .fixed .closed)) eCtx (refuseIf (not (asks (s .fixed .count) d)) eId (refuseIf (not (areaOk base size w)) ePar o)))
+    (λ (o : Option Err). refuseIf (not (s .fixed .closed)) eCtx (refuseIf (not (ownsTask (s .fixed .count) d)) eId (refuseIf (not (areaOk base size w)) ePar o)))
     (by-all r x j d base size w before behind)
 
 -- "chains of any length too"

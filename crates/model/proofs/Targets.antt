@@ -7,7 +7,7 @@ use mathlib.Core.List.{List}
 use lib.IntN.{ℤ}
 use lib.ListN.{length, getD}
 use borrow.Author.Tests.{le-leb, lt-leb}
-use Rattle.access.specs.Patterns.{ordinalOf}
+use Rattle.access.specs.Domains.{ordinalOf}
 use Rattle.model.specs.declared.check.Target.the-variants.{OutOfRange, Missing, At}
 use Rattle.model.specs.State.{no}
 use Rattle.model.specs.Rooms.{Room}

@@ -15,7 +15,8 @@ use Rattle.model.specs.Answers.{refuseIf}
 use Rattle.model.specs.Lists.{All}
 use Rattle.model.specs.State.{Region, State, setFixed, setUnit}
 use Rattle.model.specs.Regions.{mayRead, grants, allows, holds, inChain, fromHolder, judgeIn, areaOk, judge}
-use Rattle.model.specs.Verdict.{asks, verdict}
+use Rattle.model.specs.Table.{ownsTask}
+use Rattle.model.specs.Verdict.{verdict}
 use Rattle.model.proofs.Lists.{no-both}
 use Rattle.model.proofs.Tests.{Tells, le-tells, eq-tells, true-tells, always-tells, never-tells, and-tells, not-tells, passes-on, stops-at, passed-by}
 use Rattle.model.proofs.Tests as Tests
@@ -65,7 +66,7 @@ pub record At (rs : List Region) (a : ℕ) (r : Region) : Type 0 where
   pub here : Holds a r
 
 -- ---- the tests tell these facts
-asker-tells : (n : ℕ) (d : ℤ) → Tells (asks n d) (Asker n d)
+asker-tells : (n : ℕ) (d : ℤ) → Tells (ownsTask n d) (Asker n d)
 asker-tells n (pos d) = and-tells (not-tells (eq-tells d 0)) (le-tells d n)
 asker-tells n (negsuc zero) = always-tells
 asker-tells n (negsuc (suc k)) = never-tells
@@ -185,7 +186,7 @@ pub ok-only : (s : State) (d : ℤ) (base size w : ℕ) → verdict s d base siz
 unfolding verdict judge
 ok-only s d base size w h = go (fromHolder (s .fixed .regions) base) refl (h₃ .1)
   where
-    h₁ : (s .fixed .closed ≡ true) × (refuseIf (not (asks (s .fixed .count) d)) eId (judge (s .fixed .regions) d base size w) ≡ none)
+    h₁ : (s .fixed .closed ≡ true) × (refuseIf (not (ownsTask (s .fixed .count) d)) eId (judge (s .fixed .regions) d base size w) ≡ none)
     h₁ = passed-by (true-tells (s .fixed .closed)) _ _ h
 
     h₂ : Asker (s .fixed .count) d × (judge (s .fixed .regions) d base size w ≡ none)

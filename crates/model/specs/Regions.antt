@@ -5,7 +5,8 @@ use mathlib.Core.Option.{Option, none, some}
 use Prim.Native.Nat.{ℕ, _+_}
 use lib.Dec.{eqb, leb, ltb}
 use lib.IntN.{ℤ}
-use Rattle.access.specs.Patterns.{sameDomain, admitted, bitAt}
+use Rattle.access.specs.Domains.{sameDomain}
+use Rattle.access.specs.Patterns.{admitted, bitAt}
 use Rattle.access.specs.Vectors.{sameVector, resolved}
 use Rattle.access.specs.declared.vector.Choice.{Choice}
 use Rattle.itron.specs.Codes.{Err, ePar, eNoexs, eObj, eMacv}

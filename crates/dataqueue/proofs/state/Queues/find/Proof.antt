@@ -4,7 +4,7 @@ use native.Mathlib.Omega.{arith}
 use mathlib.Core.Path.{_≡_, sym, ap, _∙_}
 use Prim.Native.Nat.{_-_}
 use mir.Facts.{toZ-ofZ}
-use Rattle.access.specs.Patterns.{ordinalOf}
+use Rattle.access.specs.Domains.{ordinalOf}
 use Rattle.itron.specs.Limits.{maxQueues}
 use Rattle.model.specs.Queues.{room}
 use Rattle.model.specs.declared.check.Target.the-variants.{At}
