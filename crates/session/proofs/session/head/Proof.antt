@@ -1,10 +1,10 @@
--- `replay::session::head` is safe: the part lies within the block. Assumes nothing.
+-- `session::session::head` is safe: the part lies within the block. Assumes nothing.
 use borrow.Author.Needs.{needs}
 use mathlib.Core.Path.{sym}
 use lib.Seq.{length-take-le}
 use native.Mathlib.Nat.{le-of-lt}
-use Rattle.replay.proofs.session.head.Statement.{statement}
-use Rattle.replay.proofs.session.head.Tie as tie
+use Rattle.session.proofs.session.head.Statement.{statement}
+use Rattle.session.proofs.session.head.Tie as tie
 
 slice-aggregate-result : tie.Need-slice-aggregate-result
 slice-aggregate-result c =

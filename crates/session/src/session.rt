@@ -1,21 +1,18 @@
-// A run over standard input: bytes come in by blocks, each whole line is made, and the output goes out before the program reads on.
-ghost use Prim.Native.Nat.{_≤_};
-ghost use Rattle.command.specs.Lines.{lineSize};
+// A run over an open file: bytes come in by blocks, each whole line is made, and the output goes out before the program reads on.
 ghost use Rattle.kernel.specs.Valid.{Valid};
-use crate::output::flush;
-use crate::output::with_room;
+use crate::output::Output;
 use crate::perform::Made;
 use crate::perform::perform;
 use command::line::Line;
 use command::parse::Command;
 use command::request::requested;
-use command::text::Text;
 use kernel::state::State;
-use libc::STDIN_FILENO;
 use report::output::BLOCK;
 use report::output::put;
 
 pub struct Session {
+    // The open file that is read.
+    pub input: i32,
     // The table and its tasks.
     pub state: State,
     // The line so far.
@@ -23,23 +20,32 @@ pub struct Session {
     // The bytes of the block of input that are not yet taken: from `next` up to `end`.
     pub next: usize,
     pub end: usize,
-    // The bytes that the block of output has.
-    pub at: usize,
-    // Whether there may be more input.
+    pub output: Output,
+    // Whether there may be more input, and the output can be written.
     pub going: bool,
 }
 
-fn put_echo(out: &mut [u8; BLOCK], at: usize, echo: Text) -> usize
-    requires { ⌜ echo .count ≤ lineSize ⌝ }
-{
-    let bytes = echo.bytes;
-    let count = echo.count;
-    let at = put(out, at, &bytes[..count]);
+// The echo and the arrow before an answer; what is said has neither.
+fn put_echo(out: &mut [u8; BLOCK], at: usize, text: &[u8], command: Command) -> usize {
+    if let Command::Say = command {
+        return at;
+    }
+    let at = put(out, at, text);
     put(out, at, b" -> ")
 }
 
-// Makes a whole line: its echo and its answer are put.
-fn obey(out: &mut [u8; BLOCK], at: usize, state: State, line: Line, ended: bool) -> Made
+// Makes the command of a line's text: its echo and its answer are put.
+fn obey(out: &mut [u8; BLOCK], output: Output, state: State, text: &[u8], command: Command) -> Made
+    requires { ⌜ Valid state ⌝ }
+    ensures { λ r. ⌜ Valid (r .state) ⌝ }
+{
+    let output = output.with_room(out);
+    let at = put_echo(out, output.at, text, command);
+    perform(out, output.up_to(at), state, text, command)
+}
+
+// Makes a whole line, if it asks for anything.
+fn make(out: &mut [u8; BLOCK], output: Output, state: State, line: Line, ended: bool) -> Made
     requires { ⌜ Valid state ⌝ }
     ensures { λ r. ⌜ Valid (r .state) ⌝ }
 {
@@ -47,11 +53,11 @@ fn obey(out: &mut [u8; BLOCK], at: usize, state: State, line: Line, ended: bool)
     let command = request.command;
     let echo = request.echo;
     if let Command::Blank = command {
-        return Made { at, state };
+        return Made { output, state };
     }
-    let at = with_room(out, at);
-    let at = put_echo(out, at, echo);
-    perform(out, at, state, command)
+    let bytes = echo.bytes;
+    let count = echo.count;
+    obey(out, output, state, &bytes[..count], command)
 }
 
 // The first bytes of a block.
@@ -63,16 +69,17 @@ fn head(block: &[u8], end: usize) -> &[u8] {
 }
 
 impl Session {
-    pub fn begin(state: State) -> Session
+    pub fn begin(state: State, input: i32) -> Session
         requires { ⌜ Valid state ⌝ }
         ensures { λ r. ⌜ Valid (r .state) ⌝ }
     {
         Session {
+            input,
             state,
             line: Line::empty(),
             next: 0,
             end: 0,
-            at: 0,
+            output: Output::empty(),
             going: true,
         }
     }
@@ -82,15 +89,15 @@ impl Session {
         requires { ⌜ Valid (self .state) ⌝ }
         ensures { λ r. ⌜ Valid (r .state) ⌝ }
     {
-        let made = obey(out, self.at, self.state, line, true);
+        let made = make(out, self.output, self.state, line, true);
         let state = made.state;
+        let output = made.output;
         Session {
             state,
             line: Line::empty(),
             next,
-            end: self.end,
-            at: made.at,
-            going: true,
+            output,
+            ..self
         }
     }
 
@@ -99,17 +106,23 @@ impl Session {
         requires { ⌜ Valid (self .state) ⌝ }
         ensures { λ r. ⌜ Valid (r .state) ⌝ }
     {
-        flush(out, self.at);
-        let got = libc::read(STDIN_FILENO, block);
+        let output = self.output.flushed(out);
+        if !output.written {
+            return Session {
+                output,
+                going: false,
+                ..self
+            };
+        }
+        let got = libc::read(self.input, block);
         let end = io::count(got, block);
-        let state = self.state;
         Session {
-            state,
             line,
             next: 0,
             end,
-            at: 0,
+            output,
             going: 0 < end,
+            ..self
         }
     }
 
@@ -129,15 +142,17 @@ impl Session {
         self.with_block(block, out, line)
     }
 
-    // The last line may lack its LF.
-    pub fn finish(self, out: &mut [u8; BLOCK])
+    // The last line may lack its LF; whether all answers could be written.
+    pub fn finish(self, out: &mut [u8; BLOCK]) -> bool
         requires { ⌜ Valid (self .state) ⌝ }
     {
         let line = self.line;
+        let output = self.output;
         if line.count == 0 {
-            return;
+            return output.written;
         }
-        let made = obey(out, self.at, self.state, line, false);
-        flush(out, made.at);
+        let made = make(out, output, self.state, line, false);
+        let output = made.output.flushed(out);
+        output.written
     }
 }

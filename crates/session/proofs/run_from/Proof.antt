@@ -1,14 +1,14 @@
--- `replay::run` meets its contract. The invariant: the state is valid. The measure is the number of turns that are left. Assumes nothing.
+-- `session::run_from` meets its contract. The invariant: the state is valid. The measure is the number of turns that are left. Assumes nothing.
 use borrow.Author.Needs.{needs}
 use Rattle.kernel.specs.Valid.{Valid}
-use Rattle.replay.proofs.run.Statement.{statement}
-use Rattle.replay.proofs.run.Tie as tie
+use Rattle.session.proofs.run_from.Statement.{statement}
+use Rattle.session.proofs.run_from.Tie as tie
 
 abbrev Inv-loop : tie.InvT-loop
-Inv-loop block₀ out₀ session₀ turns₀ block out session turns = Valid (session .state)
+Inv-loop input block₀ out₀ session₀ turns₀ block out session turns = Valid (session .state)
 
 abbrev μ-loop : tie.MeasureT-loop
-μ-loop block₀ out₀ session₀ turns₀ block out session turns = turns
+μ-loop input block₀ out₀ session₀ turns₀ block out session turns = turns
 
 begin-requires : tie.Need-begin-requires Inv-loop μ-loop
 begin-requires c κs = search needs
@@ -34,8 +34,8 @@ finish-requires c κs = search needs
 returns : tie.Need-returns Inv-loop μ-loop
 returns c = search needs
 
-pub run-spec : {M : Type 1} → statement M
-run-spec =
+pub run-from-spec : {M : Type 1} → statement M
+run-from-spec =
     tie.close
     (tie.spec
     Inv-loop

@@ -1,14 +1,14 @@
--- `replay::dump::put_objects` is safe and ends. The measure is the count of objects left. Assumes nothing.
+-- `session::dump::put_objects` is safe and ends. The measure is the count of objects left. Assumes nothing.
 use borrow.Author.Needs.{needs}
 use Prim.Native.Nat.{_-_}
-use Rattle.replay.proofs.dump.put_objects.Statement.{statement}
-use Rattle.replay.proofs.dump.put_objects.Tie as tie
+use Rattle.session.proofs.dump.put_objects.Statement.{statement}
+use Rattle.session.proofs.dump.put_objects.Tie as tie
 
 abbrev Inv-loop : tie.InvT-loop
-Inv-loop out₀ at state kind count end₀ k₀ out end k = Unit {0}
+Inv-loop out₀ state kind count output₀ k₀ out output k = Unit {0}
 
 abbrev μ-loop : tie.MeasureT-loop
-μ-loop out₀ at state kind count end₀ k₀ out end k = count - k
+μ-loop out₀ state kind count output₀ k₀ out output k = count - k
 
 count-of-requires : tie.Need-count-of-requires Inv-loop μ-loop
 count-of-requires c κs = search needs
@@ -24,6 +24,9 @@ with-room-requires c κs = search needs
 
 put-object-requires : tie.Need-put-object-requires Inv-loop μ-loop
 put-object-requires c κs = search needs
+
+up-to-requires : tie.Need-up-to-requires Inv-loop μ-loop
+up-to-requires c κs = search needs
 
 loop-less : tie.Need-loop-less Inv-loop μ-loop
 loop-less c = search needs
@@ -45,6 +48,7 @@ put-objects-spec =
     add-k
     with-room-requires
     put-object-requires
+    up-to-requires
     loop-less
     loop-again
     returns)
