@@ -12,7 +12,6 @@ use mir.Syntax.{w32}
 use mir.Val.{SFits}
 use lib.ListN.{length, drop, getD, drop-of-length-le}
 use borrow.Author.Tests.{lt-ltb, le-ltb, ltb-true, eq-eqb, ne-eqb}
-use Rattle.access.specs.Patterns.{pick}
 use Rattle.command.specs.Numbers.{digitOf, valueFrom, fitted, areDigits, tooLarge, magnitudeOf, plainEnd, negated, signedEnd, numberOf, plainOf, minusOf}
 use Rattle.command.specs.declared.number.Magnitude.the-variants.{NoNumber, OutOfRange, Is}
 use Rattle.command.proofs.Walks.{next}
@@ -28,26 +27,26 @@ grows v base d h =
 -- a value that is too large stays so, whatever digits follow
 pub too-large : (base v : ℕ) (l : List ℕ) → plainEnd ≤ v → fitted (valueFrom base v l) ≡ tooLarge base l
 unfolding valueFrom fitted tooLarge areDigits
-too-large base v [] h = ap (λ (t : Bool). pick t (Is v) OutOfRange) (le-ltb v plainEnd h)
+too-large base v [] h = ap (λ (t : Bool). cond t (Is v) OutOfRange) (le-ltb v plainEnd h)
 too-large base v (b ∷ bs) h = go (ltb (digitOf b) base) refl (λ (w : ℕ) (k : plainEnd ≤ w). too-large base w bs k)
   where
     go : (t : Bool) → ltb (digitOf b) base ≡ t → ((w : ℕ) → plainEnd ≤ w → fitted (valueFrom base w bs) ≡ tooLarge base bs) →
-        fitted (pick t (valueFrom base (v * base + digitOf b) bs) none) ≡ pick (t && areDigits base bs) OutOfRange NoNumber
+        fitted (cond t (valueFrom base (v * base + digitOf b) bs) none) ≡ cond (t && areDigits base bs) OutOfRange NoNumber
     go true e f = f (v * base + digitOf b) (le-trans h (grows v base (digitOf b) (ltb-true _ _ e)))
     go false e f = refl
 
 pub fits-small : (v : ℕ) → v < plainEnd → fitted (some v) ≡ Is v
 unfolding fitted
-fits-small v h = ap (λ (t : Bool). pick t (Is v) OutOfRange) (lt-ltb v plainEnd h)
+fits-small v h = ap (λ (t : Bool). cond t (Is v) OutOfRange) (lt-ltb v plainEnd h)
 
 -- one byte of the row
 module _ (l : List ℕ) (base v i : ℕ) (h : i < length l) where
   value-by : (t : Bool) → ltb (digitOf (getD l i 0)) base ≡ t →
-      valueFrom base v (drop i l) ≡ pick t (valueFrom base (v * base + digitOf (getD l i 0)) (drop (i + 1) l)) none
+      valueFrom base v (drop i l) ≡ cond t (valueFrom base (v * base + digitOf (getD l i 0)) (drop (i + 1) l)) none
   unfolding valueFrom
   value-by t e =
       ap (valueFrom base v) (next l i h)
-      ∙ ap (λ (u : Bool). pick u (valueFrom base (v * base + digitOf (getD l i 0)) (drop (i + 1) l)) none) e
+      ∙ ap (λ (u : Bool). cond u (valueFrom base (v * base + digitOf (getD l i 0)) (drop (i + 1) l)) none) e
 
   pub value-goes : digitOf (getD l i 0) < base → valueFrom base v (drop i l) ≡ valueFrom base (v * base + digitOf (getD l i 0)) (drop (i + 1) l)
   value-goes d = value-by true (lt-ltb _ _ d)
@@ -101,15 +100,15 @@ module _ (l : List ℕ) where
   pub number-minus : getD l 0 0 ≡ 45 → numberOf l ≡ minusOf (magnitudeOf 10 (drop 1 l))
   unfolding numberOf
   number-minus h =
-      ap (λ (t : Bool). pick t (minusOf (magnitudeOf 10 (drop 1 l))) (pick (eqb (getD l 0 0) 48 && eqb (getD l 1 0) 120) (plainOf (magnitudeOf 16 (drop 2 l))) (plainOf (magnitudeOf 10 l))))
+      ap (λ (t : Bool). cond t (minusOf (magnitudeOf 10 (drop 1 l))) (cond (eqb (getD l 0 0) 48 && eqb (getD l 1 0) 120) (plainOf (magnitudeOf 16 (drop 2 l))) (plainOf (magnitudeOf 10 l))))
       (eq-eqb (getD l 0 0) 45 h)
 
   number-by : (a b : Bool) → (getD l 0 0 ≡ 45 → ⊥) → eqb (getD l 0 0) 48 ≡ a → eqb (getD l 1 0) 120 ≡ b →
-      numberOf l ≡ pick (a && b) (plainOf (magnitudeOf 16 (drop 2 l))) (plainOf (magnitudeOf 10 l))
+      numberOf l ≡ cond (a && b) (plainOf (magnitudeOf 16 (drop 2 l))) (plainOf (magnitudeOf 10 l))
   unfolding numberOf
   number-by a b h p q =
       let e = ne-eqb (getD l 0 0) 45 h in
-      λ i. pick (e i) (minusOf (magnitudeOf 10 (drop 1 l))) (pick (p i && q i) (plainOf (magnitudeOf 16 (drop 2 l))) (plainOf (magnitudeOf 10 l)))
+      λ i. cond (e i) (minusOf (magnitudeOf 10 (drop 1 l))) (cond (p i && q i) (plainOf (magnitudeOf 16 (drop 2 l))) (plainOf (magnitudeOf 10 l)))
 
   pub number-plain : (getD l 0 0 ≡ 45 → ⊥) → (getD l 0 0 ≡ 48 → ⊥) → numberOf l ≡ plainOf (magnitudeOf 10 l)
   number-plain h p = number-by false (eqb (getD l 1 0) 120) h (ne-eqb (getD l 0 0) 48 p) refl

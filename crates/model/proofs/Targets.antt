@@ -7,12 +7,12 @@ use mathlib.Core.List.{List}
 use lib.IntN.{ℤ}
 use lib.ListN.{length, getD}
 use borrow.Author.Tests.{le-leb, lt-leb}
-use Rattle.access.specs.Patterns.{ordinalOf}
+use Rattle.access.specs.Domains.{ordinalOf}
+use Rattle.model.specs.declared.check.Target.the-variants.{OutOfRange, Missing, At}
 use Rattle.model.specs.State.{no}
 use Rattle.model.specs.Rooms.{Room}
+use Rattle.model.specs.Checks.{targetIn}
 use Rattle.model.proofs.Ordinals.{outside, within}
-use Rattle.tasks.specs.declared.check.Target.the-variants.{OutOfRange, Missing, At}
-use Rattle.tasks.specs.Checks.{targetIn}
 
 module _ {C R : Type 0} (r : Room C R) (xs : List R) (z : ℤ) where
   pub out-of-range : ordinalOf z (r .most) ≡ 0 → OutOfRange ≡ targetIn r xs (no z)
