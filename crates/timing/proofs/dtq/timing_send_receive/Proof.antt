@@ -1,15 +1,15 @@
--- `pairs::timing_send_receive` is safe and ends: the state stays valid. Assumes nothing.
+-- `dtq::timing_send_receive` is safe and ends: the state stays valid. Assumes nothing.
 use Prim.Native.Nat.{_≤_, _-_}
 use borrow.Author.Needs.{needs}
 use Rattle.kernel.specs.Valid.{Valid}
-use Rattle.timing.proofs.pairs.timing_send_receive.Statement.{statement}
-use Rattle.timing.proofs.pairs.timing_send_receive.Tie as tie
+use Rattle.timing.proofs.dtq.timing_send_receive.Statement.{statement}
+use Rattle.timing.proofs.dtq.timing_send_receive.Tie as tie
 
 abbrev Inv-loop : tie.InvT-loop
-Inv-loop pairs s₀ sum₀ i₀ s sum i = (i ≤ pairs) × Valid s
+Inv-loop pairs task id s₀ sum₀ i₀ s sum i = (i ≤ pairs) × Valid s
 
 abbrev μ-loop : tie.MeasureT-loop
-μ-loop pairs s₀ sum₀ i₀ s sum i = pairs - i
+μ-loop pairs task id s₀ sum₀ i₀ s sum i = pairs - i
 
 closed-requires : tie.Need-closed-requires Inv-loop μ-loop
 closed-requires c κs = search needs

@@ -1,15 +1,15 @@
--- `pairs::timing_signal_poll` is safe and ends: the state stays valid. Assumes nothing.
+-- `sem::timing_signal_poll` is safe and ends: the state stays valid. Assumes nothing.
 use Prim.Native.Nat.{_≤_, _-_}
 use borrow.Author.Needs.{needs}
 use Rattle.kernel.specs.Valid.{Valid}
-use Rattle.timing.proofs.pairs.timing_signal_poll.Statement.{statement}
-use Rattle.timing.proofs.pairs.timing_signal_poll.Tie as tie
+use Rattle.timing.proofs.sem.timing_signal_poll.Statement.{statement}
+use Rattle.timing.proofs.sem.timing_signal_poll.Tie as tie
 
 abbrev Inv-loop : tie.InvT-loop
-Inv-loop pairs s₀ good₀ i₀ s good i = (i ≤ pairs) × Valid s
+Inv-loop pairs task id s₀ count₀ i₀ s count i = (i ≤ pairs) × Valid s
 
 abbrev μ-loop : tie.MeasureT-loop
-μ-loop pairs s₀ good₀ i₀ s good i = pairs - i
+μ-loop pairs task id s₀ count₀ i₀ s count i = pairs - i
 
 closed-requires : tie.Need-closed-requires Inv-loop μ-loop
 closed-requires c κs = search needs
@@ -23,11 +23,11 @@ sig-sem-requires c κs = search needs
 pol-sem-requires : tie.Need-pol-sem-requires Inv-loop μ-loop
 pol-sem-requires c κs = search needs
 
-counted-requires : tie.Need-counted-requires Inv-loop μ-loop
-counted-requires c κs = search needs
+good-requires : tie.Need-good-requires Inv-loop μ-loop
+good-requires c κs = search needs
 
-counted-requires-2 : tie.Need-counted-requires-2 Inv-loop μ-loop
-counted-requires-2 c κs = search needs
+good-requires-2 : tie.Need-good-requires-2 Inv-loop μ-loop
+good-requires-2 c κs = search needs
 
 add-i : tie.Need-add-i Inv-loop μ-loop
 add-i c = search needs
@@ -51,8 +51,8 @@ timing-signal-poll-spec =
     loop-holds
     sig-sem-requires
     pol-sem-requires
-    counted-requires
-    counted-requires-2
+    good-requires
+    good-requires-2
     add-i
     loop-less
     loop-again
