@@ -2,8 +2,9 @@
 
 use crate::compare::Random;
 use crate::plain::{Kernel, ADDRESSES, MAX_REGIONS};
-use crate::plain_runs::{REGIONS, REGION_SIZE};
-use crate::{by_turns, line, ours, plain_runs};
+use crate::plain_runs::{Asked, REGIONS, REGION_SIZE};
+use crate::table::cell;
+use crate::{by_turns, ours, plain_runs, RUNS};
 use std::hint::black_box;
 
 const BASES: usize = 1_000_000;
@@ -88,16 +89,15 @@ fn random_bases(from: u32, until: u32) -> Vec<u32> {
 /// One pass over the bases is a run.
 fn timed(name: &str, ours: impl Fn(u32) -> u32, plain: impl Fn(u32) -> u32) {
     assert_eq!(ours(1), plain(1), "{name}");
-    let [ours, plain] = by_turns(ours, plain, [1; 2]).map(|runs| runs.map(|pass| pass / BASES as f64));
-    let numbers = [ours[0], ours[1], plain[0], plain[1], plain[0] / ours[0], plain[1] / ours[1]];
-    line(name, numbers.map(|number| format!("{number:.2}")));
+    let [ours, plain] = by_turns(ours, plain, [1; 2], BASES as f64);
+    println!("| {name} | {} | {} | {:.1} |", cell(ours), cell(plain), plain.least / ours.least);
 }
 
 pub fn finding() {
     println!("\nBoth find the same region of up to {MAX_REGIONS} for {} addresses.", same_regions());
-    println!("Times in ns per base, {BASES} bases at random, {REGIONS} regions; plain walks from the first.");
-    line("", ["ours", "ours", "plain", "plain", "plain /", "plain /"].map(String::from));
-    line("", ["min", "median", "min", "median", "ours, min", "median"].map(String::from));
+    println!("ns per base, {BASES} bases at random among {REGIONS} regions: the least of {RUNS} runs (the median).\n");
+    println!("| Search | ours | a walk from the first | times as quick |");
+    println!("|---|---|---|---|");
     let places = Places::new(plain_runs::starts(), vec![REGION_SIZE; MAX_REGIONS]);
     let mut kernel = Kernel::EMPTY;
     plain_runs::all_regions(&mut kernel);
@@ -114,10 +114,11 @@ pub fn finding() {
         let records = |passes| total(&bases, passes, |base| kernel.region_of(base).unwrap_or(MAX_REGIONS));
         timed(&format!("{name}, the same arrays"), ours, arrays);
         timed(&format!("{name}, ordinary kernel"), ours, records);
+        let asked = Asked::reading(bases, ONE_BYTE);
         timed(
             &format!("{name}, verdict"),
-            |passes| ours::verdict(passes, &bases, ONE_BYTE),
-            |passes| plain_runs::verdict(passes, &bases, ONE_BYTE),
+            |passes| ours::verdict(passes, &asked),
+            |passes| plain_runs::verdict(passes, &asked),
         );
     }
 }

@@ -1,12 +1,25 @@
 //! The proved kernel's functions in the linked archives.
 
 use crate::finding::Places;
+use crate::plain_runs::{Asked, Who};
 
 mod archive {
     extern "C" {
-        pub fn timing_signal_poll(pairs: u32) -> u32;
-        pub fn timing_send_receive(pairs: u32) -> u32;
-        pub fn timing_verdict(rounds: u32, bases: *const u32, bases_len: usize, size: u32) -> u32;
+        pub fn timing_signal_poll(pairs: u32, task: i32, id: i32) -> u32;
+        pub fn timing_wait_signal(pairs: u32, waiter: i32, task: i32, id: i32) -> u32;
+        pub fn timing_refer_set_semaphore(pairs: u32, task: i32, id: i32) -> u32;
+        pub fn timing_send_receive(pairs: u32, task: i32, id: i32) -> u32;
+        pub fn timing_wait_send(pairs: u32, waiter: i32, task: i32, id: i32) -> u32;
+        pub fn timing_refer_set_queue(pairs: u32, task: i32, id: i32) -> u32;
+        pub fn timing_verdict(
+            rounds: u32,
+            domains: *const i32,
+            domains_len: usize,
+            bases: *const u32,
+            bases_len: usize,
+            size: u32,
+            wishes: u32,
+        ) -> u32;
         pub fn finding_find(
             bases: *const u32,
             bases_len: usize,
@@ -20,16 +33,34 @@ mod archive {
 
 // Each function below takes any number but `find`, keeps nothing, and is lent what is borrowed for the call, so its call is safe.
 
-pub fn signal_poll(pairs: u32) -> u32 {
-    unsafe { archive::timing_signal_poll(pairs) }
+pub fn signal_poll(pairs: u32, who: Who) -> u32 {
+    unsafe { archive::timing_signal_poll(pairs, who.task, who.id) }
 }
 
-pub fn send_receive(pairs: u32) -> u32 {
-    unsafe { archive::timing_send_receive(pairs) }
+pub fn wait_signal(pairs: u32, who: Who) -> u32 {
+    unsafe { archive::timing_wait_signal(pairs, who.waiter, who.task, who.id) }
 }
 
-pub fn verdict(rounds: u32, bases: &[u32], size: u32) -> u32 {
-    unsafe { archive::timing_verdict(rounds, bases.as_ptr(), bases.len(), size) }
+pub fn refer_set_semaphore(pairs: u32, who: Who) -> u32 {
+    unsafe { archive::timing_refer_set_semaphore(pairs, who.task, who.id) }
+}
+
+pub fn send_receive(pairs: u32, who: Who) -> u32 {
+    unsafe { archive::timing_send_receive(pairs, who.task, who.id) }
+}
+
+pub fn wait_send(pairs: u32, who: Who) -> u32 {
+    unsafe { archive::timing_wait_send(pairs, who.waiter, who.task, who.id) }
+}
+
+pub fn refer_set_queue(pairs: u32, who: Who) -> u32 {
+    unsafe { archive::timing_refer_set_queue(pairs, who.task, who.id) }
+}
+
+pub fn verdict(rounds: u32, asked: &Asked) -> u32 {
+    let Asked { domains, bases, size, wishes } = asked;
+    let (d, b) = (domains.as_ptr(), bases.as_ptr());
+    unsafe { archive::timing_verdict(rounds, d, domains.len(), b, bases.len(), *size, *wishes) }
 }
 
 /// The search asks for at most 64 regions in order, each with a size, as `Places` are.

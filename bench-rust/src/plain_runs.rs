@@ -53,29 +53,94 @@ fn word_of(answer: Result<Done, Er>) -> u32 {
     answer.map_or(0, |done| done.word)
 }
 
-// The optimiser must not know the kernel's contents from one round to the next: hence black_box.
+/// Who calls in a loop, and which object.
+#[derive(Clone, Copy, Debug)]
+pub struct Who {
+    pub waiter: i32,
+    pub task: i32,
+    pub id: i32,
+}
 
-pub fn signal_poll(pairs: u32) -> u32 {
+/// The optimiser must not know the kernel's contents nor the numbers from one round to the next.
+fn unknown(kernel: &mut Kernel, who: Who) -> (&mut Kernel, i32, i32, i32) {
+    (black_box(kernel), black_box(who.waiter), black_box(who.task), black_box(who.id))
+}
+
+pub fn signal_poll(pairs: u32, who: Who) -> u32 {
     let mut kernel = Kernel::EMPTY;
     bench_table(&mut kernel);
     let mut good = 0;
     for _ in 0..pairs {
-        let kernel = black_box(&mut kernel);
-        let signalled = kernel.sig_sem(1, 1);
-        let polled = kernel.pol_sem(1, 1);
+        let (kernel, _, task, id) = unknown(&mut kernel, who);
+        let signalled = kernel.sig_sem(task, id);
+        let polled = kernel.pol_sem(task, id);
         good += u32::from(signalled.is_ok()) + u32::from(polled.is_ok());
     }
     good
 }
 
-pub fn send_receive(pairs: u32) -> u32 {
+/// In the first round nobody signals, since task 0 is none: its wait takes the one count that there is, and every other waits.
+pub fn wait_signal(pairs: u32, who: Who) -> u32 {
+    let mut kernel = Kernel::EMPTY;
+    bench_table(&mut kernel);
+    let mut releases = 0;
+    for round in 0..pairs {
+        let (kernel, waiter, task, id) = unknown(&mut kernel, who);
+        let _ = kernel.wai_sem(waiter, id);
+        let signalled = kernel.sig_sem(if round == 0 { 0 } else { task }, id);
+        releases += u32::from(signalled.is_ok_and(|done| done.released.is_some()));
+    }
+    releases
+}
+
+/// What a refer tells is set again; a refused one tells zeros.
+pub fn refer_set_semaphore(pairs: u32, who: Who) -> u32 {
+    let mut kernel = Kernel::EMPTY;
+    bench_table(&mut kernel);
+    let mut sum: u32 = 0;
+    for _ in 0..pairs {
+        let (kernel, _, task, id) = unknown(&mut kernel, who);
+        let (count, vector) = kernel.ref_sem(task, id).map_or((0, Vector::KERNEL), |told| (told.count, told.vector));
+        let _ = kernel.sac_sem(task, id, vector);
+        sum = sum.wrapping_add(count);
+    }
+    sum
+}
+
+pub fn send_receive(pairs: u32, who: Who) -> u32 {
     let mut kernel = Kernel::EMPTY;
     bench_table(&mut kernel);
     let mut sum: u32 = 0;
     for round in 0..pairs {
-        let kernel = black_box(&mut kernel);
-        let _ = kernel.psnd_dtq(1, 1, round);
-        sum = sum.wrapping_add(word_of(kernel.prcv_dtq(1, 1)));
+        let (kernel, _, task, id) = unknown(&mut kernel, who);
+        let _ = kernel.psnd_dtq(task, id, round);
+        sum = sum.wrapping_add(word_of(kernel.prcv_dtq(task, id)));
+    }
+    sum
+}
+
+pub fn wait_send(pairs: u32, who: Who) -> u32 {
+    let mut kernel = Kernel::EMPTY;
+    bench_table(&mut kernel);
+    let mut sum: u32 = 0;
+    for round in 0..pairs {
+        let (kernel, waiter, task, id) = unknown(&mut kernel, who);
+        let _ = kernel.rcv_dtq(waiter, id);
+        let sent = kernel.snd_dtq(task, id, round).ok().and_then(|done| done.released);
+        sum = sum.wrapping_add(sent.map_or(0, |released| released.word));
+    }
+    sum
+}
+
+pub fn refer_set_queue(pairs: u32, who: Who) -> u32 {
+    let mut kernel = Kernel::EMPTY;
+    bench_table(&mut kernel);
+    let mut sum: u32 = 0;
+    for _ in 0..pairs {
+        let (kernel, _, task, id) = unknown(&mut kernel, who);
+        let vector = kernel.ref_dtq(task, id).map_or(Vector::KERNEL, |told| told.vector);
+        let _ = kernel.sac_dtq(task, id, vector);
+        sum = sum.wrapping_add(vector.normal1);
     }
     sum
 }
@@ -99,14 +164,30 @@ pub fn all_regions(kernel: &mut Kernel) {
     });
 }
 
-pub fn verdict(rounds: u32, bases: &[u32], size: u32) -> u32 {
+/// Verdicts: each domain asks for an area from the address at its place.
+pub struct Asked {
+    pub domains: Vec<i32>,
+    pub bases: Vec<u32>,
+    pub size: u32,
+    pub wishes: u32,
+}
+
+impl Asked {
+    /// Domain 1, which may read every region of `all_regions`, asks to read.
+    pub fn reading(bases: Vec<u32>, size: u32) -> Asked {
+        Asked { domains: vec![1; bases.len()], bases, size, wishes: TPM_READ }
+    }
+}
+
+pub fn verdict(rounds: u32, asked: &Asked) -> u32 {
     let mut kernel = Kernel::EMPTY;
     all_regions(&mut kernel);
+    let (size, wishes) = (black_box(asked.size), black_box(asked.wishes));
     let mut good = 0;
     for _ in 0..rounds {
-        for &base in bases {
+        for (&domain, &base) in asked.domains.iter().zip(&asked.bases) {
             let kernel = black_box(&mut kernel);
-            good += u32::from(kernel.prb_mem(1, base, size, TPM_READ).is_ok());
+            good += u32::from(kernel.prb_mem(domain, base, size, wishes).is_ok());
         }
     }
     good

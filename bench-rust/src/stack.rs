@@ -1,6 +1,7 @@
 //! The stack a workload needs: the least that lets it live in a thread of its own.
 
-use crate::{Work, WORKLOADS};
+use crate::plain_runs::Who;
+use crate::{Work, USERS, WORKLOADS};
 use std::hint::black_box;
 use std::process::{exit, Command, Stdio};
 
@@ -17,25 +18,26 @@ fn address<T>(local: &T) -> usize {
 
 /// Fills the stack down to an address; the system grants no thread a stack as small as those probed.
 #[inline(never)]
-fn sink(down_to: usize, work: Work) -> u32 {
+fn sink(down_to: usize, work: Work, who: Who) -> u32 {
     let ballast = black_box(0);
-    let result = if address(&ballast) > down_to { sink(down_to, work) } else { work(ROUNDS) };
+    let result = if address(&ballast) > down_to { sink(down_to, work, who) } else { work(ROUNDS, who) };
     // Used after the call, so that the frame stays.
     result ^ black_box(ballast)
 }
 
-fn find(name: &str) -> Option<Work> {
-    let Some((side, workload)) = name.split_once(':') else { return Some(black_box) };
+/// A name without a side is a thread that does nothing.
+fn find(name: &str) -> Option<(Work, Who)> {
+    let Some((side, workload)) = name.split_once(':') else { return Some((|rounds, _| black_box(rounds), USERS)) };
     let workload = WORKLOADS.iter().find(|w| w.name == workload)?;
-    Some(if side == "ours" { workload.ours } else { workload.plain })
+    Some((if side == "ours" { workload.ours } else { workload.plain }, workload.who))
 }
 
 /// The child process: an overflow ends it, which its parent sees.
 pub fn probe(name: &str, size: &str) {
-    let (Some(work), Ok(size)) = (find(name), size.parse::<usize>()) else { exit(2) };
+    let (Some((work, who)), Ok(size)) = (find(name), size.parse::<usize>()) else { exit(2) };
     let thread = std::thread::Builder::new().stack_size(THREAD).spawn(move || {
         let top = 0;
-        sink(address(&top) - (THREAD - size), work)
+        sink(address(&top) - (THREAD - size), work, who)
     });
     thread.expect("a thread").join().expect("its end");
 }
@@ -63,14 +65,8 @@ fn least(name: &str) -> usize {
     }
 }
 
-pub fn stacks() {
-    let kb = |bytes: usize| bytes as f64 / KB as f64;
+/// What a workload needs of our kernel and of the ordinary one, in KB, without what an empty thread needs.
+pub fn needs(workload: &str) -> [usize; 2] {
     let empty = least("empty");
-    println!("\nStack in KB, {ROUNDS} rounds, less the {:.1} KB of a thread with an empty function.", kb(empty));
-    println!("{:<14} {:>10} {:>10}", "", "ours", "plain");
-    for workload in &WORKLOADS {
-        let need = |side: &str| kb(least(&format!("{side}:{}", workload.name)).saturating_sub(empty));
-        let (ours, plain) = (need("ours"), need("plain"));
-        println!("{:<14} {ours:>10.1} {plain:>10.1}", workload.name);
-    }
+    ["ours", "plain"].map(|side| least(&format!("{side}:{workload}")).saturating_sub(empty).div_ceil(KB))
 }

@@ -4,7 +4,7 @@ use native.Mathlib.Omega.{arith}
 use native.Mathlib.Nat.{mod-lt, one-mul, zero-mul, add-zero, mod-one, pow-suc}
 use native.Mathlib.Numerals.{one-add, add-one}
 use mathlib.Core.Path.{_≡_, refl, sym, ap, _∙_}
-use mathlib.Core.Bool.{Bool, true, false}
+use mathlib.Core.Bool.{Bool, true, false, cond}
 use lib.IntN.{ℤ, pos, negsuc, natAbs}
 use lib.Signed.{ltZ}
 use lib.Dec.{eqb}
@@ -13,7 +13,6 @@ use lib.Bits.{bitAnd, and-mask, block-half, block-odd, shifted-half, shifted-eve
 use lib.Count.{ones, ones-cat, trailingZeros, under}
 use borrow.Author.Tests.{le-leb, lt-leb, ltb-true, eqb-true, eqb-false}
 use Rattle.itron.specs.Limits.{maxDomains}
-use Rattle.access.specs.Patterns.{pick}
 use Rattle.access.specs.Audits.{countTo, lowestTo, admissionsOf, noAdmissions, reportOf, refusedReport, auditOf}
 use Rattle.access.specs.declared.vector.Vector.{Vector}
 use Rattle.access.specs.declared.audit.Admissions.{Admissions}
@@ -39,7 +38,7 @@ bit-lt p n = mod-lt (p / 2 ^ n) (omega arith)
 step : (p n : ℕ) → p % 2 ^ suc n ≡ (p / 2 ^ n % 2) * 2 ^ n + p % 2 ^ n
 step p n = rw (← one-add n) (mod-pow-add p 1 n)
 
-ones-bit : (b : ℕ) → b < 2 → ones b ≡ pick (eqb b 1) 1 0
+ones-bit : (b : ℕ) → b < 2 → ones b ≡ cond (eqb b 1) 1 0
 unfolding ones
 ones-bit zero h = refl
 ones-bit (suc zero) h = refl

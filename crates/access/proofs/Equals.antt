@@ -10,7 +10,7 @@ use mir.Syntax.{w32}
 use mir.Val.{SFits, toZ, ofZ}
 use mir.Facts.{toZ-ofZ}
 use Rattle.access.specs.declared.vector.Vector.{Vector}
-use Rattle.access.specs.Patterns.{sameDomain}
+use Rattle.access.specs.Domains.{sameDomain}
 use Rattle.access.specs.Vectors.{sameVector}
 
 -- ---- domain numbers

@@ -4,7 +4,7 @@ use native.Mathlib.Omega.{arith}
 use native.Mathlib.Nat.{add-zero, zero-div, div-one, div-self, pow-suc}
 use native.Mathlib.Numerals.{one-add, add-one}
 use mathlib.Core.Path.{_≡_, refl, sym, ap, _∙_}
-use mathlib.Core.Bool.{Bool, true, false, _&&_}
+use mathlib.Core.Bool.{Bool, true, false, cond, _&&_}
 use mathlib.Core.Logic.{_⊎_, inl, inr}
 use lib.IntN.{ℤ, pos, negsuc, negℤ}
 use lib.Dec.{eqb, ltb}
@@ -17,7 +17,7 @@ use Rattle.access.specs.declared.vector.Operation.{Operation}
 use Rattle.access.specs.declared.vector.Operation.the-variants.{Normal1, Normal2, Management, Reference}
 use Rattle.access.specs.declared.audit.Admissions.{Admissions}
 use Rattle.access.specs.declared.audit.AuditReport.{AuditReport}
-use Rattle.access.specs.Patterns.{pick, allZeros, allOnes, admitted}
+use Rattle.access.specs.Patterns.{allZeros, allOnes, admitted}
 use Rattle.access.specs.Vectors.{patternOf, uniform, privateOf, defaultOf, resolved}
 use Rattle.access.specs.Audits.{countTo, orElse, lowestTo, admissionsOf, noAdmissions, auditOf}
 use Rattle.access.proofs.Patterns.{admitted-bit}
@@ -112,9 +112,9 @@ pub private-only : (d z : ℤ) (o : Operation) → admitted (patternOf (privateO
 unfolding privateOf
 private-only (negsuc k) z o h = inl (zeros-kernel-only z (sym (uniform-admits allZeros o z) ∙ h))
 private-only (pos zero) z o h = inl (zeros-kernel-only z (sym (uniform-admits allZeros o z) ∙ h))
-private-only (pos (suc k)) z o h = go (ltb k maxDomains) (sym (uniform-admits (pick (ltb k maxDomains) (2 ^ k) allZeros) o z) ∙ h)
+private-only (pos (suc k)) z o h = go (ltb k maxDomains) (sym (uniform-admits (cond (ltb k maxDomains) (2 ^ k) allZeros) o z) ∙ h)
   where
-    go : (b : Bool) → admitted (pick b (2 ^ k) allZeros) z ≡ true → (z ≡ negsuc 0) ⊎ (z ≡ pos (suc k))
+    go : (b : Bool) → admitted (cond b (2 ^ k) allZeros) z ≡ true → (z ≡ negsuc 0) ⊎ (z ≡ pos (suc k))
     go true e = bit-only k z e
     go false e = inl (zeros-kernel-only z e)
 
@@ -147,7 +147,7 @@ unfolding countTo
 count-denied p k h = rw h (add-zero (countTo p k))
 
 -- "how many": of n, at most n; of a shared pattern all n, and the lowest is 1
-one-most : (b : Bool) → pick b 1 0 ≤ 1
+one-most : (b : Bool) → cond b 1 0 ≤ 1
 one-most true = omega arith
 one-most false = omega arith
 
@@ -175,11 +175,11 @@ unfolding lowestTo
 lowest-admitted p zero k h = absurd (omega arith)
 lowest-admitted p (suc m) k h = go (lowestTo p m) (lowest-admitted p m k) h
   where
-    last : (b : Bool) → admitted p (pos (suc m)) ≡ b → pick b (suc m) 0 ≡ suc k → (admitted p (pos (suc k)) ≡ true) × (k < suc m)
+    last : (b : Bool) → admitted p (pos (suc m)) ≡ b → cond b (suc m) 0 ≡ suc k → (admitted p (pos (suc k)) ≡ true) × (k < suc m)
     last true e g = let q : m ≡ k = omega arith in (ap (λ (i : ℕ). admitted p (pos (suc i))) (sym q) ∙ e, omega arith)
     last false e g = absurd (omega arith)
 
-    go : (l : ℕ) → (l ≡ suc k → (admitted p (pos (suc k)) ≡ true) × (k < m)) → orElse l (pick (admitted p (pos (suc m))) (suc m) 0) ≡ suc k
+    go : (l : ℕ) → (l ≡ suc k → (admitted p (pos (suc k)) ≡ true) × (k < m)) → orElse l (cond (admitted p (pos (suc m))) (suc m) 0) ≡ suc k
         → (admitted p (pos (suc k)) ≡ true) × (k < suc m)
     go zero ih g = last (admitted p (pos (suc m))) refl g
     go (suc i) ih g = let r = ih g in (r .0, omega arith)
@@ -198,7 +198,7 @@ lowest-least p zero k h a = absurd (omega arith)
 lowest-least p (suc m) k h a = go (ltb k m) refl (λ l. lowest-least p m k l a)
   where
     go : (b : Bool) → ltb k m ≡ b → (k < m → (0 < lowestTo p m) × (lowestTo p m ≤ suc k)) → (0 < lowestTo p (suc m)) × (lowestTo p (suc m) ≤ suc k)
-    go true e ih = let r = ih (ltb-true k m e) in rw (kept _ (pick (admitted p (pos (suc m))) (suc m) 0) (r .0)) r
+    go true e ih = let r = ih (ltb-true k m e) in rw (kept _ (cond (admitted p (pos (suc m))) (suc m) 0) (r .0)) r
     go false e ih =
         let q : k ≡ m = omega (arith, ltb-false k m e) in
         rw (rw q at a, q) (most (lowestTo p m) m (λ i g. lowest-admitted p m i g .1))
@@ -210,7 +210,7 @@ audit-same p q zero f = refl
 audit-same p q (suc n) f =
     let e = audit-same p q n (λ k h. f k (omega arith)) in
     let a = f n (omega arith) in
-    λ i. record { count = e i .count + pick (a i) 1 0; lowest = orElse (e i .lowest) (pick (a i) (suc n) 0) }
+    λ i. record { count = e i .count + cond (a i) 1 0; lowest = orElse (e i .lowest) (cond (a i) (suc n) 0) }
 
 -- "bits above n are left out"
 pub above-left-out : (p n : ℕ) → n ≤ maxDomains → admissionsOf (p % 2 ^ n) n ≡ admissionsOf p n
@@ -223,7 +223,7 @@ nobody-admitted p zero f = refl
 nobody-admitted p (suc n) f =
     let e = nobody-admitted p n (λ k h. f k (omega arith)) in
     let a = f n (omega arith) in
-    λ i. record { count = e i .count + pick (a i) 1 0; lowest = orElse (e i .lowest) (pick (a i) (suc n) 0) }
+    λ i. record { count = e i .count + cond (a i) 1 0; lowest = orElse (e i .lowest) (cond (a i) (suc n) 0) }
 
 -- "takes a vector and n .. and tells for each pattern how many .. and the lowest"
 pub audit-tells : (v : Vector) (n : ℕ) → n ≤ maxDomains

@@ -2,12 +2,12 @@
 use Prim.Native.Nat.{ℕ, zero, suc, _≤_, _<_}
 use native.Mathlib.Omega.{arith}
 use mathlib.Core.Path.{_≡_, refl, ap}
-use mathlib.Core.Bool.{Bool, true, false}
+use mathlib.Core.Bool.{Bool, true, false, cond}
 use lib.IntN.{ℤ, pos, negsuc, natAbs}
 use lib.Signed.{ltZ, nonNeg}
 use lib.Dec.{T, leb}
 use borrow.Author.Tests.{le-leb, lt-leb, ltb-true, ltb-false, leb-true, leb-false}
-use Rattle.access.specs.Patterns.{pick, ordinalOf}
+use Rattle.access.specs.Domains.{ordinalOf}
 
 -- a number below 1
 pub ordinal-low : (z : ℤ) (n : ℕ) → ltZ z (pos 1) ≡ true → 0 ≡ ordinalOf z n
@@ -39,7 +39,7 @@ unfolding ordinalOf
 ordinal-le (negsuc k) n = omega arith
 ordinal-le (pos k) n = go (leb k n) refl
   where
-    go : (b : Bool) → leb k n ≡ b → pick b k 0 ≤ n
+    go : (b : Bool) → leb k n ≡ b → cond b k 0 ≤ n
     go true e = leb-true k n e
     go false e = omega arith
 
@@ -49,7 +49,7 @@ unfolding ordinalOf
 ordinal-user (negsuc j) n k h = absurd (omega arith)
 ordinal-user (pos j) n k h = go (leb j n) refl h
   where
-    go : (b : Bool) → leb j n ≡ b → pick b j 0 ≡ suc k → (pos j ≡ pos (suc k)) × (k < n)
+    go : (b : Bool) → leb j n ≡ b → cond b j 0 ≡ suc k → (pos j ≡ pos (suc k)) × (k < n)
     go true e h′ = (ap pos h′, let l = leb-true j n e in omega arith)
     go false e h′ = absurd (omega arith)
 
@@ -57,6 +57,6 @@ pub ordinal-none : (k n : ℕ) → ordinalOf (pos (suc k)) n ≡ 0 → n ≤ k
 unfolding ordinalOf
 ordinal-none k n h = go (leb (suc k) n) refl h
   where
-    go : (b : Bool) → leb (suc k) n ≡ b → pick b (suc k) 0 ≡ 0 → n ≤ k
+    go : (b : Bool) → leb (suc k) n ≡ b → cond b (suc k) 0 ≡ 0 → n ≤ k
     go true e h′ = absurd (omega arith)
     go false e h′ = let l = leb-false (suc k) n e in omega arith

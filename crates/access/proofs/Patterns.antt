@@ -10,7 +10,8 @@ use lib.Pow.{shl-exact}
 use lib.Bits.{bitAnd, and-mask}
 use borrow.Author.Tests.{lt-ltb, le-ltb}
 use Rattle.itron.specs.Limits.{maxDomains}
-use Rattle.access.specs.Patterns.{ordinalOf, bitAt, admitted}
+use Rattle.access.specs.Domains.{ordinalOf}
+use Rattle.access.specs.Patterns.{bitAt, admitted}
 use Rattle.access.proofs.Ordinals.{ordinal-user, ordinal-none}
 
 pub admitted-kernel : (p : ℕ) (z : ℤ) → z ≡ negsuc 0 → true ≡ admitted p z

@@ -8,7 +8,8 @@ use types.Run.{OneOf}
 use denote.Enum.Declared.{tagOf}
 use borrow.Author.Tests.{lt-ltb, le-ltb}
 use Rattle.itron.specs.Limits.{maxDomains}
-use Rattle.access.specs.Patterns.{allZeros, allOnes, ordinalOf}
+use Rattle.access.specs.Domains.{ordinalOf}
+use Rattle.access.specs.Patterns.{allZeros, allOnes}
 use Rattle.access.specs.Vectors.{uniform, privateOf, defaultOf, resolved}
 use Rattle.access.specs.declared.vector.Choice.{Choice}
 use Rattle.access.specs.declared.vector.Choice.the-variants.{Default, Given}

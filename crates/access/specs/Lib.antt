@@ -1,3 +1,4 @@
+pub mod Domains
 pub mod Patterns
 pub mod Vectors
 pub mod Audits

@@ -2,25 +2,8 @@
 use Prim.Native.Nat.{ℕ, zero, suc, _-_, _^_, _/_, _%_}
 use mathlib.Core.Bool.{Bool, true, false, _&&_}
 use lib.IntN.{ℤ, pos, negsuc}
-use lib.Dec.{leb, ltb, eqb}
+use lib.Dec.{ltb, eqb}
 use Rattle.itron.specs.Limits.{maxDomains}
-
--- the first of two values where the test holds, else the second
-abbrev pub pick : {A : Type 0} → Bool → A → A → A
-pick true a b = a
-pick false a b = b
-
--- a number from 1 to the limit, as it is; 0 of any other
-unfoldable pub ordinalOf : ℤ → ℕ → ℕ
-ordinalOf (pos k) limit = pick (leb k limit) k 0
-ordinalOf (negsuc k) limit = 0
-
--- whether two domain numbers are the same
-abbrev pub sameDomain : ℤ → ℤ → Bool
-sameDomain (pos m) (pos n) = eqb m n
-sameDomain (pos m) (negsuc n) = false
-sameDomain (negsuc m) (pos n) = false
-sameDomain (negsuc m) (negsuc n) = eqb m n
 
 -- "All zeros is kernel only, all ones is shared"
 abbrev pub allZeros : ℕ
@@ -29,7 +12,7 @@ allZeros = 0
 abbrev pub allOnes : ℕ
 allOnes = 2 ^ maxDomains - 1
 
--- whether bit k of a pattern is set
+-- whether bit k of a number is set; a region's attribute and wishes are read by it too
 abbrev pub bitAt : ℕ → ℕ → Bool
 bitAt p k = eqb (p / 2 ^ k % 2) 1
 

@@ -1,10 +1,10 @@
 -- Vectors: four patterns (document 01, "Patterns and vectors"). Definitions only.
 use Prim.Native.Nat.{ℕ, zero, suc, _^_}
-use mathlib.Core.Bool.{Bool, _&&_}
+use mathlib.Core.Bool.{Bool, cond, _&&_}
 use lib.IntN.{ℤ, pos, negsuc}
 use lib.Dec.{ltb, eqb}
 use Rattle.itron.specs.Limits.{maxDomains}
-use Rattle.access.specs.Patterns.{pick, allZeros, allOnes}
+use Rattle.access.specs.Patterns.{allZeros, allOnes}
 use Rattle.access.specs.declared.vector.Vector.{Vector}
 use Rattle.access.specs.declared.vector.Operation.{Operation}
 use Rattle.access.specs.declared.vector.Operation.the-variants.{Normal1, Normal2, Management, Reference}
@@ -28,7 +28,7 @@ uniform p = record { normal1 = p; normal2 = p; management = p; reference = p }
 
 -- "private to a number outside 1 to 32 is kernel only"
 unfoldable pub privateOf : ℤ → Vector
-privateOf (pos (suc k)) = uniform (pick (ltb k maxDomains) (2 ^ k) allZeros)
+privateOf (pos (suc k)) = uniform (cond (ltb k maxDomains) (2 ^ k) allZeros)
 privateOf (pos zero) = uniform allZeros
 privateOf (negsuc k) = uniform allZeros
 

@@ -1,6 +1,6 @@
 // Domain numbers: special domains are below zero, user domains count from 1.
 ghost use mathlib.Core.Path.{_≡_};
-ghost use Rattle.access.specs.Patterns.{ordinalOf, sameDomain};
+ghost use Rattle.access.specs.Domains.{ordinalOf, sameDomain};
 
 pub const KERNEL_DOMAIN: i32 = -1;
 

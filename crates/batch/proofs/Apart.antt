@@ -1,11 +1,10 @@
 -- The words of an answer say all of it: no two answers are written alike, and none like what is no call. Assumes nothing.
 use Prim.Native.Nat.{ℕ}
 use mathlib.Core.Path.{_≡_, refl, sym, ap, _∙_}
-use mathlib.Core.Bool.{false}
+use mathlib.Core.Bool.{false, cond}
 use mathlib.Core.List.{List}
 use lib.Dec.{eqb}
 use lib.ListN.{getD}
-use Rattle.access.specs.Patterns.{pick}
 use Rattle.itron.specs.Codes.{Code, ok, waiting, error, eRsatr, ePar, eId, eCtx, eMacv, eOacv, eNomem, eNoid, eObj, eNoexs, eQovr, eTmout}
 use Rattle.model.specs.Answers.{Answer, outcomeOf, replyOf}
 use Rattle.model.proofs.Lists.{ne-of}
@@ -14,19 +13,19 @@ use Rattle.batch.specs.Encoding.{outcomeWord, encoded, noCall}
 -- the code that a word stands for; 2^32 less a refusal's size
 abbrev codeFrom : ℕ → Code
 codeFrom n =
-    pick (eqb n 0) ok
-    (pick (eqb n 1) waiting
-    (pick (eqb n 4294967285) (error eRsatr)
-    (pick (eqb n 4294967279) (error ePar)
-    (pick (eqb n 4294967278) (error eId)
-    (pick (eqb n 4294967271) (error eCtx)
-    (pick (eqb n 4294967270) (error eMacv)
-    (pick (eqb n 4294967269) (error eOacv)
-    (pick (eqb n 4294967263) (error eNomem)
-    (pick (eqb n 4294967262) (error eNoid)
-    (pick (eqb n 4294967255) (error eObj)
-    (pick (eqb n 4294967254) (error eNoexs)
-    (pick (eqb n 4294967253) (error eQovr)
+    cond (eqb n 0) ok
+    (cond (eqb n 1) waiting
+    (cond (eqb n 4294967285) (error eRsatr)
+    (cond (eqb n 4294967279) (error ePar)
+    (cond (eqb n 4294967278) (error eId)
+    (cond (eqb n 4294967271) (error eCtx)
+    (cond (eqb n 4294967270) (error eMacv)
+    (cond (eqb n 4294967269) (error eOacv)
+    (cond (eqb n 4294967263) (error eNomem)
+    (cond (eqb n 4294967262) (error eNoid)
+    (cond (eqb n 4294967255) (error eObj)
+    (cond (eqb n 4294967254) (error eNoexs)
+    (cond (eqb n 4294967253) (error eQovr)
     (error eTmout)))))))))))))
 
 code-from : (c : Code) → codeFrom (outcomeWord (outcomeOf c)) ≡ c

@@ -3,13 +3,12 @@ use Prim.Native.Nat.{ℕ, zero, suc, _+_, _*_, _/_, _≤_}
 use native.Mathlib.Omega.{arith}
 use mathlib.Core.Path.{_≡_, refl, sym, ap, _∙_, subst}
 use mathlib.Core.List.{List, _∷_, _++_}
-use mathlib.Core.Bool.{Bool, true, false}
+use mathlib.Core.Bool.{Bool, true, false, cond}
 use mathlib.Core.Option.{Option, none, some}
 use lib.Dec.{ltb}
 use borrow.Author.Tests.{ltb-true, ltb-false}
 use lib.ListN.{length, drop, take, length-append, length-drop}
 use lib.Seq.{paste, take-at, take-all, drop-append-add, drop-drop}
-use Rattle.access.specs.Patterns.{pick}
 use Rattle.model.specs.State as Model
 use Rattle.model.specs.Calls.{Call}
 use Rattle.model.specs.History.{after, history}
@@ -102,7 +101,7 @@ pub answerable-room : (calls answers : ℕ) → (answerable calls answers ≤ gr
 answerable-room calls answers = go (ltb (answers / answerWords) (groups calls)) refl
   where
     go : (b : Bool) → ltb (answers / answerWords) (groups calls) ≡ b
-        → (pick b (answers / answerWords) (groups calls) ≤ groups calls) × (pick b (answers / answerWords) (groups calls) * answerWords ≤ answers)
+        → (cond b (answers / answerWords) (groups calls) ≤ groups calls) × (cond b (answers / answerWords) (groups calls) * answerWords ≤ answers)
     go true e = let h = ltb-true (answers / answerWords) (groups calls) e in (omega arith, omega arith)
     go false e = let h = ltb-false (answers / answerWords) (groups calls) e in (omega arith, omega arith)
 

@@ -1,5 +1,6 @@
 -- A list of calls as numbers of 32 bits, and their answers as numbers of 32 bits. Definitions only.
 use Prim.Native.Nat.{ℕ, zero, suc, _+_, _-_, _*_, _/_}
+use mathlib.Core.Bool.{cond}
 use mathlib.Core.List.{List, [], _∷_, _++_}
 use mathlib.Core.Option.{Option, none, some}
 use lib.Dec.{leb, ltb}
@@ -7,7 +8,6 @@ use lib.IntN.{ℤ, negsuc}
 use lib.ListN.{length, getD}
 use mir.Syntax.{w32}
 use mir.Val.{toZ, ofZ}
-use Rattle.access.specs.Patterns.{pick}
 use Rattle.model.specs.Answers.{Answer, outcomeOf, releasedOf}
 use Rattle.model.specs.Acts.{own, refer, setVector}
 use Rattle.model.specs.declared.sem.SemaphoreCall.the-variants.{Signal as signal, Acquire as acquire}
@@ -62,7 +62,7 @@ itemOf q = nth (meanings q) (q .function)
 
 -- the k-th item of a slice, counted from 0: its words are the eight from k * 8 on; fewer than eight are no call
 abbrev pub itemAt : List ℕ → ℕ → Option Call
-itemAt ws k = pick (leb (k * callWords + callWords) (length ws)) (itemOf (numbersAt ws (k * callWords))) none
+itemAt ws k = cond (leb (k * callWords + callWords) (length ws)) (itemOf (numbersAt ws (k * callWords))) none
 
 -- the first n items, THE NEWEST FIRST as in a history
 abbrev pub itemsIn : List ℕ → ℕ → List (Option Call)
@@ -120,4 +120,4 @@ abbrev pub groups : ℕ → ℕ
 groups n = (n + (callWords - 1)) / callWords
 
 abbrev pub answerable : ℕ → ℕ → ℕ
-answerable calls answers = pick (ltb (answers / answerWords) (groups calls)) (answers / answerWords) (groups calls)
+answerable calls answers = cond (ltb (answers / answerWords) (groups calls)) (answers / answerWords) (groups calls)

@@ -1,4 +1,5 @@
-// The bench runs and the easy slips of document 01, through the kernel's public operations, one line for each step.
+// The bench runs and the easy slips of document 01, with units and chains of regions (document 02, T-06 and T-09), through the kernel's
+// public operations, one line for each step.
 pub mod calls;
 pub mod chains;
 pub mod entries;

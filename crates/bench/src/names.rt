@@ -2,17 +2,14 @@
 use regions::flag::EXECUTE;
 use regions::flag::READ;
 use regions::flag::WRITE;
-use text::code::LONGEST_NAME;
-use text::code::put_name;
+use text::print;
 use text::print::named;
 use text::print::text;
 
 // A code at the end of a line.
 pub fn code(number: i32) {
-    let mut name = [0u8; LONGEST_NAME];
-    let len = put_name(&mut name, number);
     text(b": ");
-    text(&name[..len]);
+    print::code(number);
 }
 
 pub fn wish(wishes: u32) {

@@ -1,7 +1,7 @@
 -- One step of a walk over a list, for each definition that recurses over bytes. Assumes nothing.
 use Prim.Native.Nat.{ℕ, suc, _+_, _-_, _≤_, _<_}
 use mathlib.Core.Path.{_≡_, refl, sym, ap, _∙_}
-use mathlib.Core.Bool.{Bool, true, false, not, _||_}
+use mathlib.Core.Bool.{Bool, true, false, cond, not, _||_}
 use mathlib.Core.List.{List, [], _∷_}
 use native.Mathlib.Numerals.{add-one}
 use native.Mathlib.Nat.{le-refl}
@@ -10,7 +10,6 @@ use lib.Dec.{eqb}
 use lib.ListN.{length, take, drop, getD, drop-of-length-le, length-drop}
 use lib.Seq.{drop-cons, getD-take, drop-drop, drop-length, take-all, take-nil, length-take-le}
 use borrow.Author.Tests.{eq-eqb, ne-eqb}
-use Rattle.access.specs.Patterns.{pick}
 use Rattle.command.specs.Lines.{pushed, gatheredOf, cut, withoutCr}
 use Rattle.command.specs.Texts.{isBlank, put, with, textFrom}
 use Rattle.command.specs.Words.{spaceAt, wordAt, spaces, wordCount}
@@ -31,11 +30,11 @@ no-rest l n i h = ap (take n) (drop-length l) ∙ take-nil n ∙ sym (drop-of-le
 -- a line is gathered
 module _ (b : List ℕ) (l : Line) (i : ℕ) where
   gather-by : (t : Bool) → i < length b → eqb (getD b i 0) 10 ≡ t →
-      gatheredOf l i (drop i b) ≡ pick t (record { line = l; next = i + 1; ended = true }) (gatheredOf (pushed l (getD b i 0)) (i + 1) (drop (i + 1) b))
+      gatheredOf l i (drop i b) ≡ cond t (record { line = l; next = i + 1; ended = true }) (gatheredOf (pushed l (getD b i 0)) (i + 1) (drop (i + 1) b))
   unfolding gatheredOf
   gather-by t h e =
       ap (gatheredOf l i) (next b i h)
-      ∙ ap (λ (u : Bool). pick u (record { line = l; next = i + 1; ended = true }) (gatheredOf (pushed l (getD b i 0)) (i + 1) (drop (i + 1) b))) e
+      ∙ ap (λ (u : Bool). cond u (record { line = l; next = i + 1; ended = true }) (gatheredOf (pushed l (getD b i 0)) (i + 1) (drop (i + 1) b))) e
 
   pub gather-ends : i < length b → getD b i 0 ≡ 10 → gatheredOf l i (drop i b) ≡ record { line = l; next = i + 1; ended = true }
   gather-ends h e = gather-by true h (eq-eqb (getD b i 0) 10 e)
@@ -49,9 +48,9 @@ module _ (b : List ℕ) (l : Line) (i : ℕ) where
 
 -- the CR at its end
 module _ (l : Line) (n : ℕ) (e : l .count ≡ suc n) where
-  cut-by : (t : Bool) → eqb (getD (l .bytes) n 0) 13 ≡ t → withoutCr l ≡ pick t (record { bytes = l .bytes; count = n }) l
+  cut-by : (t : Bool) → eqb (getD (l .bytes) n 0) 13 ≡ t → withoutCr l ≡ cond t (record { bytes = l .bytes; count = n }) l
   unfolding withoutCr
-  cut-by t h = ap (λ (k : ℕ). cut k l) e ∙ ap (λ (u : Bool). pick u (record { bytes = l .bytes; count = n }) l) h
+  cut-by t h = ap (λ (k : ℕ). cut k l) e ∙ ap (λ (u : Bool). cond u (record { bytes = l .bytes; count = n }) l) h
 
   pub cut-cr : getD (l .bytes) n 0 ≡ 13 → record { bytes = l .bytes; count = n } ≡ withoutCr l
   cut-cr h = sym (cut-by true (eq-eqb (getD (l .bytes) n 0) 13 h))
@@ -63,11 +62,11 @@ module _ (l : Line) (n : ℕ) (e : l .count ≡ suc n) where
 module _ (t : Text) (b : ℕ) where
   pub with-blank : isBlank b ≡ true → with t b ≡ record { bytes = t .bytes; count = t .count; gap = true }
   unfolding with
-  with-blank h = λ i. pick (h i) (record { bytes = t .bytes; count = t .count; gap = true }) (pick (not (t .gap) || eqb (t .count) 0) (put t b) (put (put t 32) b))
+  with-blank h = λ i. cond (h i) (record { bytes = t .bytes; count = t .count; gap = true }) (cond (not (t .gap) || eqb (t .count) 0) (put t b) (put (put t 32) b))
 
-  with-by : (g e : Bool) → isBlank b ≡ false → not (t .gap) ≡ g → eqb (t .count) 0 ≡ e → with t b ≡ pick (g || e) (put t b) (put (put t 32) b)
+  with-by : (g e : Bool) → isBlank b ≡ false → not (t .gap) ≡ g → eqb (t .count) 0 ≡ e → with t b ≡ cond (g || e) (put t b) (put (put t 32) b)
   unfolding with
-  with-by g e h k n = λ i. pick (h i) (record { bytes = t .bytes; count = t .count; gap = true }) (pick (k i || n i) (put t b) (put (put t 32) b))
+  with-by g e h k n = λ i. cond (h i) (record { bytes = t .bytes; count = t .count; gap = true }) (cond (k i || n i) (put t b) (put (put t 32) b))
 
   pub with-next : isBlank b ≡ false → not (t .gap) ≡ true → with t b ≡ put t b
   with-next h k = with-by true (eqb (t .count) 0) h k refl
@@ -85,11 +84,11 @@ module _ (b : List ℕ) (n : ℕ) (t : Text) (i : ℕ) (fits : n ≤ length b) w
       let m : i < length (take n b) = rw (length-take-le n b fits) h in
       next (take n b) i m ∙ ap (λ (x : ℕ). x ∷ drop (i + 1) (take n b)) (getD-take n b i 0 h)
 
-  text-by : (u : Bool) → i < n → eqb (getD b i 0) 35 ≡ u → textFrom t (drop i (take n b)) ≡ pick u t (textFrom (with t (getD b i 0)) (drop (i + 1) (take n b)))
+  text-by : (u : Bool) → i < n → eqb (getD b i 0) 35 ≡ u → textFrom t (drop i (take n b)) ≡ cond u t (textFrom (with t (getD b i 0)) (drop (i + 1) (take n b)))
   unfolding textFrom
   text-by u h e =
       ap (textFrom t) (text-next h)
-      ∙ ap (λ (v : Bool). pick v t (textFrom (with t (getD b i 0)) (drop (i + 1) (take n b)))) e
+      ∙ ap (λ (v : Bool). cond v t (textFrom (with t (getD b i 0)) (drop (i + 1) (take n b)))) e
 
   pub text-ends : i < n → getD b i 0 ≡ 35 → textFrom t (drop i (take n b)) ≡ t
   text-ends h e = text-by true h (eq-eqb (getD b i 0) 35 e)
@@ -103,9 +102,9 @@ module _ (b : List ℕ) (n : ℕ) (t : Text) (i : ℕ) (fits : n ≤ length b) w
 
 -- the end of a word is looked for
 module _ (l : List ℕ) (i : ℕ) where
-  space-by : (u : Bool) → i < length l → eqb (getD l i 0) 32 ≡ u → spaceAt (drop i l) ≡ pick u 0 (suc (spaceAt (drop (i + 1) l)))
+  space-by : (u : Bool) → i < length l → eqb (getD l i 0) 32 ≡ u → spaceAt (drop i l) ≡ cond u 0 (suc (spaceAt (drop (i + 1) l)))
   unfolding spaceAt
-  space-by u h e = ap spaceAt (next l i h) ∙ ap (λ (v : Bool). pick v 0 (suc (spaceAt (drop (i + 1) l)))) e
+  space-by u h e = ap spaceAt (next l i h) ∙ ap (λ (v : Bool). cond v 0 (suc (spaceAt (drop (i + 1) l)))) e
 
   pub space-here : i < length l → getD l i 0 ≡ 32 → spaceAt (drop i l) ≡ 0
   space-here h e = space-by true h (eq-eqb (getD l i 0) 32 e)
@@ -118,9 +117,9 @@ module _ (l : List ℕ) (i : ℕ) where
   space-never h = ap spaceAt (drop-of-length-le l h)
 
   -- the spaces from a place on are counted
-  spaces-by : (u : Bool) → i < length l → eqb (getD l i 0) 32 ≡ u → spaces (drop i l) ≡ pick u (suc (spaces (drop (i + 1) l))) (spaces (drop (i + 1) l))
+  spaces-by : (u : Bool) → i < length l → eqb (getD l i 0) 32 ≡ u → spaces (drop i l) ≡ cond u (suc (spaces (drop (i + 1) l))) (spaces (drop (i + 1) l))
   unfolding spaces
-  spaces-by u h e = ap spaces (next l i h) ∙ ap (λ (v : Bool). pick v (suc (spaces (drop (i + 1) l))) (spaces (drop (i + 1) l))) e
+  spaces-by u h e = ap spaces (next l i h) ∙ ap (λ (v : Bool). cond v (suc (spaces (drop (i + 1) l))) (spaces (drop (i + 1) l))) e
 
   pub spaces-one : i < length l → getD l i 0 ≡ 32 → spaces (drop i l) ≡ suc (spaces (drop (i + 1) l))
   spaces-one h e = spaces-by true h (eq-eqb (getD l i 0) 32 e)

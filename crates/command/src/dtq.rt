@@ -1,6 +1,7 @@
 // The lines of data queues: the entry's and the calls'.
 ghost use Rattle.command.specs.Shapes.{Small};
 use crate::entry::Entry;
+use crate::flaw::Flaw;
 use crate::numbers::Numbers;
 use crate::parse::Command;
 use crate::shape::PATTERNS;
@@ -54,7 +55,7 @@ pub fn named(word: &[u8]) -> Command {
     if same(word, b"sac_dtq") {
         return asked(QueueRequest::SetVector(Vector::KERNEL));
     }
-    Command::Bad
+    Command::Bad(Flaw::UnknownCommand)
 }
 
 // A send's word is the one number of a queue's own calls.

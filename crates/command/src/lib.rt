@@ -2,6 +2,7 @@
 pub mod call;
 pub mod dtq;
 pub mod entry;
+pub mod flaw;
 pub mod line;
 pub mod mem;
 pub mod number;

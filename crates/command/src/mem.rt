@@ -1,6 +1,7 @@
 // The lines of memory regions: the entry's and the verdict's.
 ghost use Rattle.command.specs.Shapes.{Small};
 use crate::entry::Entry;
+use crate::flaw::Flaw;
 use crate::numbers::Numbers;
 use crate::parse::Command;
 use crate::shape::Shape;
@@ -18,7 +19,7 @@ pub fn named(word: &[u8]) -> Command {
     if same(word, b"prb_mem") {
         return probe(Numbers::none());
     }
-    Command::Bad
+    Command::Bad(Flaw::UnknownCommand)
 }
 
 // A domain asks about a base, a size and wishes.

@@ -2,7 +2,7 @@
 ghost use mathlib.Core.Path.{_≡_};
 ghost use Prim.Native.Nat.{_≤_};
 ghost use lib.ListN.{drop, getD};
-ghost use Rattle.command.specs.Numbers.{digitOf, magnitudeOf, plainOf, minusOf, numberOf, signedOf, unsignedOf, negated, signedEnd};
+ghost use Rattle.command.specs.Numbers.{digitOf, areDigits, tooLarge, magnitudeOf, plainOf, minusOf, numberOf, signedOf, unsignedOf, negated, signedEnd};
 
 // The value of no digit.
 const NO_DIGIT: u8 = 16;
@@ -17,24 +17,28 @@ const LARGEST_SIGNED: u32 = 2_147_483_647;
 
 // A row of digits: its value, where that has 32 bits.
 pub enum Magnitude {
-    Bad,
+    NoNumber,
+    OutOfRange,
     Is(u32),
 }
 
 // A word as a number, and its sign apart.
 pub enum Number {
-    Bad,
+    NoNumber,
+    OutOfRange,
     Plain(u32),
     Minus(u32),
 }
 
 pub enum Signed {
-    Bad,
+    NoNumber,
+    OutOfRange,
     Is(i32),
 }
 
 pub enum Unsigned {
-    Bad,
+    NoNumber,
+    OutOfRange,
     Is(u32),
 }
 
@@ -88,24 +92,47 @@ fn digit(byte: u8) -> u8
     NO_DIGIT
 }
 
+fn are_digits(text: &[u8], base: u8) -> bool
+    ensures { λ r. ⌜ r ≡ areDigits base (now (text .entry)) ⌝ }
+{
+    let mut i = 0;
+    while i < text.len() {
+        if base <= digit(text[i]) {
+            return false;
+        }
+        i += 1;
+    }
+    true
+}
+
+// What a row is whose first digits are too large already: the others need only be digits.
+fn too_large(text: &[u8], base: u8) -> Magnitude
+    ensures { λ r. ⌜ r ≡ tooLarge base (now (text .entry)) ⌝ }
+{
+    if are_digits(text, base) {
+        return Magnitude::OutOfRange;
+    }
+    Magnitude::NoNumber
+}
+
 pub fn read_digits(text: &[u8], base: u8) -> Magnitude
     ensures { λ r. ⌜ r ≡ magnitudeOf base (now (text .entry)) ⌝ }
 {
     if text.len() == 0 {
-        return Magnitude::Bad;
+        return Magnitude::NoNumber;
     }
     let mut value: u64 = 0;
     let mut i = 0;
     while i < text.len() {
         let next = digit(text[i]);
         if base <= next {
-            return Magnitude::Bad;
+            return Magnitude::NoNumber;
         }
         value = value * wide(base) + wide(next);
-        if LARGEST < value {
-            return Magnitude::Bad;
-        }
         i += 1;
+        if LARGEST < value {
+            return too_large(rest(text, i), base);
+        }
     }
     Magnitude::Is(value as u32)
 }
@@ -114,7 +141,8 @@ fn plain(magnitude: Magnitude) -> Number
     ensures { λ r. ⌜ r ≡ plainOf magnitude ⌝ }
 {
     match magnitude {
-        Magnitude::Bad => Number::Bad,
+        Magnitude::NoNumber => Number::NoNumber,
+        Magnitude::OutOfRange => Number::OutOfRange,
         Magnitude::Is(value) => Number::Plain(value),
     }
 }
@@ -123,12 +151,13 @@ fn minus(magnitude: Magnitude) -> Number
     ensures { λ r. ⌜ r ≡ minusOf magnitude ⌝ }
 {
     match magnitude {
-        Magnitude::Bad => Number::Bad,
+        Magnitude::NoNumber => Number::NoNumber,
+        Magnitude::OutOfRange => Number::OutOfRange,
         Magnitude::Is(value) => Number::Minus(value),
     }
 }
 
-// The number that a word writes, or Bad.
+// The number that a word writes.
 pub fn read_number(text: &[u8]) -> Number
     ensures { λ r. ⌜ r ≡ numberOf (now (text .entry)) ⌝ }
 {
@@ -162,16 +191,17 @@ pub fn as_signed(number: Number) -> Signed
     ensures { λ r. ⌜ r ≡ signedOf number ⌝ }
 {
     match number {
-        Number::Bad => Signed::Bad,
+        Number::NoNumber => Signed::NoNumber,
+        Number::OutOfRange => Signed::OutOfRange,
         Number::Plain(value) => {
             if value <= LARGEST_SIGNED {
                 return Signed::Is(value as i32);
             }
-            Signed::Bad
+            Signed::OutOfRange
         }
         Number::Minus(value) => {
             if LARGEST_SIGNED + 1 < value {
-                return Signed::Bad;
+                return Signed::OutOfRange;
             }
             Signed::Is(negative(value))
         }
@@ -183,13 +213,14 @@ pub fn as_unsigned(number: Number) -> Unsigned
     ensures { λ r. ⌜ r ≡ unsignedOf number ⌝ }
 {
     match number {
-        Number::Bad => Unsigned::Bad,
+        Number::NoNumber => Unsigned::NoNumber,
+        Number::OutOfRange => Unsigned::OutOfRange,
         Number::Plain(value) => Unsigned::Is(value),
         Number::Minus(value) => {
             if value == 0 {
                 return Unsigned::Is(0);
             }
-            Unsigned::Bad
+            Unsigned::OutOfRange
         }
     }
 }

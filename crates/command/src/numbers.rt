@@ -1,4 +1,5 @@
 // The numbers of a line, read as its command takes them: signed ones first, unsigned ones after them.
+use crate::flaw::Flaw;
 use crate::number::Number;
 use crate::number::Signed;
 use crate::number::Unsigned;
@@ -14,8 +15,8 @@ use access::vector::Vector;
 pub const MOST: usize = 7;
 
 pub struct Numbers {
-    // Whether each word was a number that fits.
-    pub good: bool,
+    // What is wrong with the first word that is no number or does not fit.
+    pub flaw: Flaw,
     pub first: i32,
     pub second: i32,
     pub rest: [u32; MOST],
@@ -24,48 +25,59 @@ pub struct Numbers {
 impl Numbers {
     pub fn none() -> Numbers {
         Numbers {
-            good: true,
+            flaw: Flaw::None,
             first: 0,
             second: 0,
             rest: [0; MOST],
         }
     }
 
-    fn spoilt(mut self) -> Numbers {
-        self.good = false;
-        self
+    // The first flaw is the one that is told.
+    fn spoilt(self, flaw: Flaw) -> Numbers {
+        let before = self.flaw;
+        match before {
+            Flaw::None => Numbers { flaw, ..self },
+            _ => self,
+        }
     }
 
-    // Number k of the line, which is a signed one.
-    fn with_signed(mut self, k: usize, number: Number) -> Numbers {
-        let Signed::Is(value) = as_signed(number) else {
-            return self.spoilt();
-        };
-        if k == 0 {
-            self.first = value;
-            return self;
+    // The number at this place of the line, which is a signed one.
+    fn with_signed(mut self, place: usize, number: Number) -> Numbers {
+        match as_signed(number) {
+            Signed::NoNumber => self.spoilt(Flaw::NoNumber(place)),
+            Signed::OutOfRange => self.spoilt(Flaw::OutOfRange(place)),
+            Signed::Is(value) => {
+                if place == 1 {
+                    self.first = value;
+                    return self;
+                }
+                self.second = value;
+                self
+            }
         }
-        self.second = value;
-        self
     }
 
-    // Unsigned number k of the line.
-    fn with_unsigned(mut self, k: usize, number: Number) -> Numbers {
-        let Unsigned::Is(value) = as_unsigned(number) else {
-            return self.spoilt();
-        };
-        if MOST <= k {
-            return self.spoilt();
+    // The number at this place of the line, which is unsigned number k.
+    fn with_unsigned(mut self, place: usize, k: usize, number: Number) -> Numbers {
+        match as_unsigned(number) {
+            Unsigned::NoNumber => self.spoilt(Flaw::NoNumber(place)),
+            Unsigned::OutOfRange => self.spoilt(Flaw::OutOfRange(place)),
+            Unsigned::Is(value) => {
+                if k < MOST {
+                    self.rest[k] = value;
+                    return self;
+                }
+                self
+            }
         }
-        self.rest[k] = value;
-        self
     }
 
-    fn with(self, k: usize, signed: usize, number: Number) -> Numbers {
-        if k < signed {
-            return self.with_signed(k, number);
+    // The number at this place of the line; the first number's place is 1.
+    fn with(self, place: usize, signed: usize, number: Number) -> Numbers {
+        if place <= signed {
+            return self.with_signed(place, number);
         }
-        self.with_unsigned(k - signed, number)
+        self.with_unsigned(place, place - signed - 1, number)
     }
 
     // The numbers of a text's words after the first.
@@ -74,7 +86,7 @@ impl Numbers {
         let mut k = 0;
         while k < count {
             let next = k + 1;
-            numbers = numbers.with(k, signed, read_number(word(text, next)));
+            numbers = numbers.with(next, signed, read_number(word(text, next)));
             k = next;
         }
         numbers

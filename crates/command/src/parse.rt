@@ -1,5 +1,6 @@
 // What a text asks for: its command with its numbers.
 use crate::entry::Entry;
+use crate::flaw::Flaw;
 use crate::numbers::Numbers;
 use crate::verb::command_of;
 use crate::verb::shape_of;
@@ -11,8 +12,10 @@ use model::Request;
 pub enum Command {
     // No word: nothing to do and nothing to print.
     Blank,
-    // Not made: an unknown command, a wrong count of words, or a word that is no number that fits.
-    Bad,
+    // Not made.
+    Bad(Flaw),
+    // The words behind the command are written, and nothing else.
+    Say,
     // For n user domains, with this protection unit.
     Fresh(i32, u32),
     Entry(Entry),
@@ -33,7 +36,7 @@ impl Command {
     // The first of two that is not Bad.
     pub(crate) fn or(self, other: Command) -> Command {
         match self {
-            Command::Bad => other,
+            Command::Bad(_) => other,
             _ => self,
         }
     }
@@ -43,14 +46,16 @@ impl Command {
 fn with_count(text: &[u8], command: Command, count: usize) -> Command {
     let takes = shape_of(command);
     let fewest = takes.signed + takes.unsigned;
-    if count != fewest && count != fewest + takes.optional {
-        return Command::Bad;
+    let most = fewest + takes.optional;
+    if count != fewest && count != most {
+        return Command::Bad(Flaw::Count(fewest, most, count));
     }
     let numbers = Numbers::of(text, takes.signed, count);
-    if numbers.good {
-        return with_numbers(command, numbers, fewest < count);
+    let flaw = numbers.flaw;
+    match flaw {
+        Flaw::None => with_numbers(command, numbers, fewest < count),
+        _ => Command::Bad(flaw),
     }
-    Command::Bad
 }
 
 // The command of a text (crate::text).
@@ -59,5 +64,9 @@ pub fn parse(text: &[u8]) -> Command {
     if words == 0 {
         return Command::Blank;
     }
-    with_count(text, command_of(word::word(text, 0)), words - 1)
+    let command = command_of(word::word(text, 0));
+    match command {
+        Command::Bad(_) | Command::Say => command,
+        _ => with_count(text, command, words - 1),
+    }
 }

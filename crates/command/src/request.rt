@@ -1,6 +1,7 @@
 // A whole line: its command and its echo.
 ghost use Prim.Native.Nat.{_≤_};
 ghost use Rattle.command.specs.Lines.{lineSize};
+use crate::flaw::Flaw;
 use crate::line::Line;
 use crate::line::SIZE;
 use crate::parse::Command;
@@ -19,7 +20,7 @@ pub fn requested(line: Line, ended: bool) -> Asked
 {
     if SIZE <= line.count {
         return Asked {
-            command: Command::Bad,
+            command: Command::Bad(Flaw::LongLine),
             echo: Text::long(),
         };
     }

@@ -1,6 +1,7 @@
 // The lines of semaphores: the entry's and the calls'.
 ghost use Rattle.command.specs.Shapes.{Small};
 use crate::entry::Entry;
+use crate::flaw::Flaw;
 use crate::numbers::Numbers;
 use crate::parse::Command;
 use crate::shape::PATTERNS;
@@ -46,7 +47,7 @@ pub fn named(word: &[u8]) -> Command {
     if same(word, b"sac_sem") {
         return asked(SemaphoreRequest::SetVector(Vector::KERNEL));
     }
-    Command::Bad
+    Command::Bad(Flaw::UnknownCommand)
 }
 
 // A semaphore's own calls hold no number of the line's.

@@ -4,6 +4,7 @@ use crate::call;
 use crate::dtq;
 use crate::entry;
 use crate::entry::Entry;
+use crate::flaw::Flaw;
 use crate::mem;
 use crate::numbers::Numbers;
 use crate::parse::Command;
@@ -31,7 +32,10 @@ fn named(word: &[u8]) -> Command {
     if same(word, b"dump") {
         return Command::Dump;
     }
-    Command::Bad
+    if same(word, b"say") {
+        return Command::Say;
+    }
+    Command::Bad(Flaw::UnknownCommand)
 }
 
 // The command that a line's first word names, with zeros where the line's numbers will stand; Bad for none.
@@ -47,7 +51,8 @@ pub fn shape_of(command: Command) -> Shape
     ensures { λ r. ⌜ Small r ⌝ }
 {
     match command {
-        Command::Blank | Command::Bad | Command::Close | Command::Dump => Shape::fixed(0, 0),
+        Command::Blank | Command::Bad(_) | Command::Say | Command::Close | Command::Dump =>
+            Shape::fixed(0, 0),
         Command::Fresh(_, _) => Shape::open(0, 1),
         Command::Entry(entry) => entry::shape_of(entry),
         Command::Call(_, request) => call::shape_of(request),
@@ -65,7 +70,7 @@ fn fresh(numbers: Numbers, given: bool) -> Command {
 // The command with the line's numbers, which fit its shape; `given` says that what may be left out is there.
 pub fn with_numbers(command: Command, numbers: Numbers, given: bool) -> Command {
     match command {
-        Command::Blank | Command::Bad | Command::Close | Command::Dump => command,
+        Command::Blank | Command::Bad(_) | Command::Say | Command::Close | Command::Dump => command,
         Command::Fresh(_, _) => fresh(numbers, given),
         Command::Entry(entry) => Command::Entry(entry::with_numbers(entry, numbers, given)),
         Command::Call(_, request) => {

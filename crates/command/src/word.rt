@@ -46,6 +46,14 @@ pub fn word(text: &[u8], k: usize) -> &[u8]
     &text[start..end]
 }
 
+// The text behind its first word; empty where there is none.
+pub fn behind_first(text: &[u8]) -> &[u8]
+    ensures { λ r. ⌜ now r ≡ drop (suc (spaceAt (now (text .entry)))) (now (text .entry)) ⌝ }
+{
+    let start = after(text, 0);
+    &text[start..]
+}
+
 pub fn count(text: &[u8]) -> usize
     ensures { λ r. ⌜ r ≡ wordCount (now (text .entry)) ⌝ }
 {

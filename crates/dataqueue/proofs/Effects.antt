@@ -21,8 +21,8 @@ use Rattle.model.specs.declared.Info.{Info}
 use Rattle.model.specs.declared.Reply.{Reply}
 use Rattle.model.specs.declared.Patience.{Patience}
 use Rattle.model.specs.declared.Side.the-variants.{Receiving as receiving, Sending as sending}
-use Rattle.tasks.specs.declared.check.Check.{Check}
-use Rattle.tasks.specs.declared.check.Check.the-variants.{Admitted}
+use Rattle.model.specs.declared.check.Check.{Check}
+use Rattle.model.specs.declared.check.Check.the-variants.{Admitted}
 use Rattle.tasks.specs.declared.state.Tasks.{Tasks}
 use Rattle.tasks.specs.declared.task.Wait.the-variants.{Receiving, Sending}
 use Rattle.tasks.specs.declared.wait.Ended.{Ended}

@@ -10,8 +10,8 @@ use Rattle.model.specs.Answers.{noInfo, say, replyOf, plain}
 use Rattle.model.specs.Acts.{Act}
 use Rattle.model.specs.Rooms.{actOn}
 use Rattle.model.specs.Queues.{room}
-use Rattle.tasks.specs.declared.check.Check.{Check}
-use Rattle.tasks.specs.declared.check.Check.the-variants.{Refused, Admitted}
+use Rattle.model.specs.declared.check.Check.{Check}
+use Rattle.model.specs.declared.check.Check.the-variants.{Refused, Admitted}
 use Rattle.tasks.specs.declared.state.Tasks.{Tasks}
 use Rattle.tasks.specs.declared.wait.Ended.{Ended}
 use Rattle.tasks.specs.View.{domainsOf, waitsOf}

@@ -7,7 +7,7 @@ ghost use Rattle.model.specs.Lists.{at};
 ghost use Rattle.model.specs.State.{no};
 ghost use Rattle.model.specs.Rooms.{setVectorOf};
 ghost use Rattle.model.specs.Queues.{queueIn, room};
-ghost use Rattle.tasks.specs.Checks.{targetIn};
+ghost use Rattle.model.specs.Checks.{targetIn};
 ghost use Rattle.dataqueue.specs.View.{queuesOf, infoOf};
 ghost use Rattle.dataqueue.specs.Form.{noRecord, laid, queuesAs};
 ghost use Rattle.dataqueue.specs.Held.{Held};
@@ -15,7 +15,7 @@ use access::domain;
 use access::vector::Vector;
 use itron::limit::MAX_QUEUES;
 use itron::limit::MAX_WORDS;
-use tasks::check::Target;
+use model::check::Target;
 
 // A data queue: its buffered words stand at the start of its part of `words`, the oldest first.
 pub struct Queue {

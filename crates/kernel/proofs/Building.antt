@@ -2,13 +2,13 @@
 use Prim.Native.Nat.{ℕ, zero, suc, _+_, _-_, _≤_, _<_}
 use native.Mathlib.Omega.{arith}
 use mathlib.Core.Path.{_≡_, refl, sym, ap, _∙_}
-use mathlib.Core.Bool.{Bool, true, false, not, _&&_, _||_, and-true, and-false}
+use mathlib.Core.Bool.{Bool, true, false, cond, not, _&&_, _||_, and-true, and-false}
 use mathlib.Core.Option.{Option, none, some}
 use lib.Dec.{eqb, leb, ltb}
 use lib.IntN.{ℤ, pos, negsuc}
 use lib.ListN.{length}
 use borrow.Author.Tests.{ltb-true, leb-true, ne-eqb}
-use Rattle.access.specs.Patterns.{pick, ordinalOf}
+use Rattle.access.specs.Domains.{ordinalOf}
 use Rattle.access.specs.declared.vector.Choice.{Choice}
 use Rattle.itron.specs.Codes.{Err, eRsatr, ePar, eId, eCtx, eMacv, eOacv, eNomem, eNoid, eObj, eNoexs, eQovr, eTmout, numberOf, okNumber}
 use Rattle.itron.specs.Limits.{maxDomains, maxTasks, maxWords, minUnit}
@@ -76,7 +76,7 @@ owns-user n (negsuc zero) h = absurd (h refl)
 owns-user n (negsuc (suc k)) h = refl
 owns-user n (pos k) h = go (leb k n)
   where
-    go : (b : Bool) → not (eqb (pick b k 0) 0) ≡ not (eqb k 0) && b
+    go : (b : Bool) → not (eqb (cond b k 0) 0) ≡ not (eqb k 0) && b
     go true = sym (and-true (not (eqb k 0)))
     go false = sym (and-false (not (eqb k 0)))
 
@@ -101,7 +101,7 @@ counted-user (negsuc k) h = refl
 counted-user (pos zero) h = absurd (h refl)
 counted-user (pos (suc k)) h = go (leb (suc k) maxDomains)
   where
-    go : (b : Bool) → not (eqb (pick b (suc k) 0) 0) ≡ b
+    go : (b : Bool) → not (eqb (cond b (suc k) 0) 0) ≡ b
     go true = ap not (ne-eqb (suc k) 0 (λ e. omega arith))
     go false = refl
 

@@ -1,22 +1,20 @@
 -- From the checks and the effect of a room to a call's answer: one law for every part of the state. Assumes nothing.
 use Prim.Native.Nat.{ℕ, suc}
-use mathlib.Core.Path.{_≡_, refl, sym, ap, _∙_, subst}
+use mathlib.Core.Path.{_≡_, refl, sym, ap, _∙_}
 use mathlib.Core.Bool.{true}
 use mathlib.Core.Option.{Option}
 use lib.IntN.{ℤ}
 use Rattle.itron.specs.Codes.{Err}
-use Rattle.model.specs.State as Model
 use Rattle.model.specs.State.{no}
-use Rattle.model.specs.Answers as Answers
 use Rattle.model.specs.Answers.{plain, noInfo}
 use Rattle.model.specs.Acts.{Act}
 use Rattle.model.specs.Rooms.{Room, actOn, onRecords, Asks, onObject}
 use Rattle.model.specs.Semaphores as Semaphores
 use Rattle.model.specs.Queues as Queues
-use Rattle.model.specs.Calls.{Op, Call, call, asks, actIf, step}
+use Rattle.model.specs.Calls.{Op, call, asks, actIf, step}
 use Rattle.model.proofs.Refers.{refer-state}
-use Rattle.tasks.specs.declared.check.Check.{Check}
-use Rattle.tasks.specs.declared.check.Check.the-variants.{Refused, Admitted}
+use Rattle.model.specs.declared.check.Check.{Check}
+use Rattle.model.specs.declared.check.Check.the-variants.{Refused, Admitted}
 use Rattle.semaphore.specs.declared.call.Effect as SemaphoreEffect
 use Rattle.semaphore.specs.Effects as SemaphoreEffects
 use Rattle.dataqueue.specs.declared.call.Effect as QueueEffect
@@ -30,7 +28,7 @@ use Rattle.kernel.specs.Promises.{Does, Tells}
 use Rattle.kernel.specs.Answers.{answered, answerOf}
 use Rattle.kernel.specs.Inside.{withTasks, withSemaphores, withQueues, checkOf}
 use Rattle.kernel.proofs.Back.{promise}
-use Rattle.kernel.proofs.Checks.{Refusal, refusal, Admission, admission}
+use Rattle.kernel.proofs.Checks.{refusal, admission}
 
 -- ---- a part of the state: what its room's effects, E, make of it
 pub record Part {C R : Type 0} (r : Room C R) (E : Type 0) (s : State) : Type 0 where

@@ -3,7 +3,7 @@ use Prim.Native.Nat.{ℕ, zero, suc, _<_}
 use native.Mathlib.Omega.{arith}
 use mathlib.Core.Path.{_≡_, refl, sym, ap, _∙_}
 use mathlib.Core.Logic.{_≢_}
-use mathlib.Core.Bool.{Bool, true, false, not, _&&_}
+use mathlib.Core.Bool.{Bool, true, false, cond, not, _&&_}
 use mathlib.Core.List.{[], _∷_}
 use mathlib.Core.Option.{Option, none, some}
 use lib.Dec.{leb}
@@ -11,30 +11,29 @@ use lib.IntN.{ℤ}
 use lib.ListN.{length}
 use types.Run.{OneOf}
 use denote.Enum.Declared.{tagOf}
-use Rattle.access.specs.Patterns.{pick}
 use Rattle.access.specs.Vectors.{patternOf}
-use Rattle.arrays.specs.Pad.{index}
 use Rattle.itron.specs.Codes.{Err, eCtx, eId, ePar, eNoexs, eOacv, numberOf}
+use Rattle.model.specs.Lists.{index}
 use Rattle.model.specs.State as Model
 use Rattle.model.specs.State.{domainAt, no}
 use Rattle.model.specs.Answers.{refuseIf}
 use Rattle.model.specs.Acts.{Act, operationOf, clear}
 use Rattle.model.specs.Rooms.{Room, ready, inRange, admits, vectorAt, slotsOf, check}
+use Rattle.model.specs.Checks.{targetIn, checked}
 use Rattle.model.specs.Waits.{absent}
 use Rattle.model.proofs.Rooms.{passed}
-use Rattle.tasks.specs.declared.check.Check.{Check}
-use Rattle.tasks.specs.declared.check.Check.the-variants.{Refused, Admitted}
-use Rattle.tasks.specs.declared.check.Target.{Target}
-use Rattle.tasks.specs.declared.check.Target.the-variants.{OutOfRange, Missing, At}
+use Rattle.model.specs.declared.check.Check.{Check}
+use Rattle.model.specs.declared.check.Check.the-variants.{Refused, Admitted}
+use Rattle.model.specs.declared.check.Target.{Target}
+use Rattle.model.specs.declared.check.Target.the-variants.{OutOfRange, Missing, At}
 use Rattle.tasks.specs.declared.wait.Caller.{Caller}
 use Rattle.tasks.specs.declared.wait.Caller.the-variants as Caller
-use Rattle.tasks.proofs.check.Target.{the-type as target-type}
+use Rattle.model.proofs.check.Target.{the-type as target-type}
 use Rattle.tasks.proofs.wait.Caller.{the-type as caller-type}
-use Rattle.tasks.specs.Checks.{targetIn, Passed}
-use Rattle.tasks.specs.Held.{Free}
+use Rattle.tasks.specs.Held.{Free, Passed}
 use Rattle.kernel.specs.declared.state.State.{State}
 use Rattle.kernel.specs.View.{viewOf}
-use Rattle.kernel.specs.Inside.{callerIn, checkedBy, checked, checkOf}
+use Rattle.kernel.specs.Inside.{callerIn, checkedBy, checkOf}
 
 pub nobody : (w : Caller) → OneOf (0 ∷ []) (tagOf caller-type w) → w ≡ Caller.Nobody
 nobody Caller.Nobody t = refl
@@ -55,12 +54,12 @@ module _ {C R : Type 0} (r : Room C R) (m : Model.State) (t n : ℕ) (a : Act C)
   abbrev may : Bool
   may = admits (domainAt m t) (patternOf (vectorAt r m n) (operationOf (r .operation) a))
 
-  by-may : (b : Bool) → pick b (Admitted (index t) (index n)) (Refused (numberOf eOacv)) ≡ checked (refuseIf (not b) eOacv none) t n
+  by-may : (b : Bool) → cond b (Admitted (index t) (index n)) (Refused (numberOf eOacv)) ≡ checked (refuseIf (not b) eOacv none) t n
   by-may true = refl
   by-may false = refl
 
   by-tests : (ready here there : Bool)
-      → checkedBy (pick ready (Caller.Ready (index t) (domainAt m t)) Caller.Nobody) (operationOf (r .operation) a) (pick here (pick there (At (index n) (vectorAt r m n)) Missing) OutOfRange)
+      → checkedBy (cond ready (Caller.Ready (index t) (domainAt m t)) Caller.Nobody) (operationOf (r .operation) a) (cond here (cond there (At (index n) (vectorAt r m n)) Missing) OutOfRange)
       ≡ checked (refuseIf (not ready) eCtx (refuseIf (not here) eId (refuseIf (not there) eNoexs (refuseIf (not may) eOacv none)))) t n
   by-tests false here there = refl
   by-tests true false there = refl

@@ -1,23 +1,24 @@
 -- What the kernel's private functions give; no promise cites it. Definitions only.
 use Prim.Native.Nat.{ℕ, zero, suc}
-use mathlib.Core.Bool.{Bool, true, not, _&&_}
-use mathlib.Core.Option.{Option, none, some}
+use mathlib.Core.Bool.{Bool, true, cond, not, _&&_}
+use mathlib.Core.Option.{Option, none}
 use lib.Dec.{ltb}
 use lib.IntN.{ℤ, pos, negsuc}
-use Rattle.access.specs.Patterns.{pick, admitted}
+use Rattle.access.specs.Patterns.{admitted}
 use Rattle.access.specs.Vectors.{patternOf}
 use Rattle.access.specs.declared.vector.Operation.{Operation}
-use Rattle.arrays.specs.Pad.{index}
 use Rattle.itron.specs.Codes.{Err, eCtx, eNoid, eId, eNoexs, eOacv, numberOf}
+use Rattle.model.specs.Lists.{index}
 use Rattle.model.specs.State as Model
 use Rattle.model.specs.State.{domainAt, no}
 use Rattle.model.specs.Answers.{refuseIf}
 use Rattle.model.specs.Acts.{Act}
 use Rattle.model.specs.Rooms.{Room, ready, check}
-use Rattle.tasks.specs.declared.check.Check.{Check}
-use Rattle.tasks.specs.declared.check.Check.the-variants.{Refused, Admitted}
-use Rattle.tasks.specs.declared.check.Target.{Target}
-use Rattle.tasks.specs.declared.check.Target.the-variants.{OutOfRange, Missing, At}
+use Rattle.model.specs.Checks.{checked}
+use Rattle.model.specs.declared.check.Check.{Check}
+use Rattle.model.specs.declared.check.Check.the-variants.{Refused, Admitted}
+use Rattle.model.specs.declared.check.Target.{Target}
+use Rattle.model.specs.declared.check.Target.the-variants.{OutOfRange, Missing, At}
 use Rattle.tasks.specs.declared.state.Tasks.{Tasks}
 use Rattle.tasks.specs.declared.wait.Caller.{Caller}
 use Rattle.tasks.specs.declared.wait.Caller.the-variants as Caller
@@ -46,19 +47,14 @@ shut s = record { domains = s .domains; closed = true; tasks = s .tasks; semapho
 -- ---- the checks
 -- a registered ready task of a closed table
 abbrev pub callerIn : Model.State → ℕ → Caller
-callerIn m t = pick (m .fixed .closed && ready m t) (Caller.Ready (index t) (domainAt m t)) Caller.Nobody
+callerIn m t = cond (m .fixed .closed && ready m t) (Caller.Ready (index t) (domainAt m t)) Caller.Nobody
 
 -- first hit wins: who calls, which object, and whether the caller's domain is admitted
 abbrev pub checkedBy : Caller → Operation → Target → Check
 checkedBy Caller.Nobody o x = Refused (numberOf eCtx)
 checkedBy (Caller.Ready t d) o OutOfRange = Refused (numberOf eId)
 checkedBy (Caller.Ready t d) o Missing = Refused (numberOf eNoexs)
-checkedBy (Caller.Ready t d) o (At n v) = pick (admitted (patternOf v o) d) (Admitted t n) (Refused (numberOf eOacv))
-
--- a refusal's code, or the indexes of the task t and of the object n
-abbrev pub checked : Option Err → ℕ → ℕ → Check
-checked (some e) t n = Refused (numberOf e)
-checked none t n = Admitted (index t) (index n)
+checkedBy (Caller.Ready t d) o (At n v) = cond (admitted (patternOf v o) d) (Admitted t n) (Refused (numberOf eOacv))
 
 -- what the checks give for an act of task z on the object n
 abbrev pub checkOf : {C R : Type 0} → Room C R → State → ℤ → ℤ → Act C → Check

@@ -11,8 +11,8 @@ use itron::code::E_CTX;
 use itron::code::E_ID;
 use itron::code::E_NOEXS;
 use itron::code::E_OACV;
-use tasks::check::Check;
-use tasks::check::Target;
+use model::check::Check;
+use model::check::Target;
 use tasks::wait::Caller;
 
 impl State {

@@ -1,4 +1,5 @@
-// Read-only queries: what a dump of the state shows. Objects by number, from 1; what is not there is all zeros.
+// Read-only queries of what belongs to no one kind: how large the table is, a task, who waits. What a dump shows of an object is in
+// its kind's file. Objects by number, from 1; what is not there is all zeros.
 ghost use mathlib.Core.Path.{_≡_};
 ghost use mathlib.Core.List.{map};
 ghost use lib.ListN.{getD};
@@ -9,9 +10,7 @@ ghost use Rattle.kernel.specs.View.{viewOf};
 ghost use Rattle.kernel.specs.Valid.{Valid};
 ghost use Rattle.kernel.specs.Answers.{summaryOf};
 use crate::state::State;
-use dataqueue::state::QueueInfo;
 use model::Side;
-use model::sem::Semaphore;
 use tasks::task::Task;
 
 // How large the table is: the number n of user domains, the protection unit, whether it is closed, and its entries by kind.

@@ -2,7 +2,7 @@
 -- What a call that passes them answers is in SemaphoreAnswers and QueueAnswers; what it does to the state is in Steps and Turns.
 use mathlib.Core.Path.{_≡_, refl, sym, ap, _∙_}
 use mathlib.Core.Logic.{_≢_}
-use mathlib.Core.Bool.{Bool, true, false, not, _&&_}
+use mathlib.Core.Bool.{true, not, _&&_}
 use mathlib.Core.List.{List, [], _∷_}
 use mathlib.Core.Option.{Option, none, some}
 use Prim.Native.Nat.{ℕ, _≤_}
@@ -16,9 +16,9 @@ use Rattle.itron.specs.Codes.{Err, eCtx, eId, ePar, eNoexs, eOacv, Code, ok, er
 use Rattle.itron.specs.Limits.{maxSemaphores, maxQueues}
 use Rattle.model.specs.Lists.{All}
 use Rattle.model.specs.State.{Vector, Waiter, State, semAt, queueAt, domainAt, no}
-use Rattle.model.specs.Answers.{Released, Answer, Out, refuseIf}
+use Rattle.model.specs.Answers.{Released, Answer, refuseIf}
 use Rattle.model.specs.Waits.{absent, firstTask}
-use Rattle.model.specs.Acts.{Act, operationOf, Slots, clear}
+use Rattle.model.specs.Acts.{Act, operationOf, clear}
 use Rattle.model.specs.Rooms.{Room, ready, inRange, admits, vectorAt, slotsOf, check}
 use Rattle.model.specs.Semaphores as Semaphores
 use Rattle.model.specs.Queues as Queues

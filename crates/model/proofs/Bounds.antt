@@ -4,7 +4,7 @@ use native.Mathlib.Omega.{arith}
 use mathlib.Core.Path.{_≡_, refl, sym, subst}
 use mathlib.Core.List.{List, [], _∷_}
 use lib.ListN.{length}
-use Rattle.itron.specs.Codes.{Err, Code, ok, waiting, error}
+use Rattle.itron.specs.Codes.{Code, ok, waiting, error}
 use Rattle.itron.specs.Limits.{maxTasks}
 use Rattle.model.specs.Lists.{All}
 use Rattle.model.specs.State.{Waiter, Place, State}

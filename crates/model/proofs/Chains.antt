@@ -7,7 +7,7 @@ use Prim.Native.Nat.{ℕ, _+_, _-_, _≤_, _<_}
 use native.Mathlib.Omega.{arith}
 use lib.Dec.{leb}
 use lib.IntN.{ℤ}
-use Rattle.access.specs.Patterns.{sameDomain}
+use Rattle.access.specs.Domains.{sameDomain}
 use Rattle.access.specs.Vectors.{sameVector}
 use Rattle.access.proofs.Equals.{domains-equal, equal-domains, vectors-equal, equal-vectors}
 use Rattle.model.specs.Lists.{anyOf, beginnings}

@@ -1,6 +1,7 @@
 pub mod Lists
 pub mod Tests
 pub mod Ordinals
+pub mod Targets
 pub mod Chains
 pub mod Units
 pub mod WaitQueues

@@ -1,4 +1,4 @@
--- Laws of the list functions of Core, once for all
+-- Laws of the list functions, once for all. Assumes nothing.
 use mathlib.Core.Path.{_≡_, refl, sym, ap, _∙_, subst}
 use mathlib.Core.Logic.{_≢_}
 use mathlib.Core.Bool.{Bool, true, false, not, _&&_}

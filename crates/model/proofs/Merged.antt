@@ -1,7 +1,7 @@
 -- "Regions that touch and are equal in these count as one for the verdict" (document 02, T-09): a table with one region in the place of
 -- two such has the same verdicts. So it is with one region in the place of a chain of any length.
 use mathlib.Core.Path.{_≡_, refl, sym, ap, _∙_}
-use mathlib.Core.Bool.{Bool, true, false, not, _&&_, _||_}
+use mathlib.Core.Bool.{Bool, true, false, cond, not, _&&_, _||_}
 use mathlib.Core.List.{List, [], _∷_, _++_}
 use mathlib.Core.Option.{Option, none}
 use Prim.Native.Nat.{ℕ, _+_}
@@ -9,13 +9,14 @@ use native.Mathlib.Omega.{arith}
 use lib.Dec.{eqb, leb}
 use lib.IntN.{ℤ}
 use borrow.Author.Tests.{leb-false}
-use Rattle.access.specs.Patterns.{pick, sameDomain}
+use Rattle.access.specs.Domains.{sameDomain}
 use Rattle.access.specs.Vectors.{sameVector}
 use Rattle.itron.specs.Codes.{Err, eCtx, eId, ePar, eObj, eMacv}
 use Rattle.model.specs.Answers.{refuseIf}
 use Rattle.model.specs.State.{Region, State, setFixed, setRegions}
 use Rattle.model.specs.Regions.{end, touches, isEqual, inChain, allows, holds, fromHolder, judgeIn, areaOk, judge}
-use Rattle.model.specs.Verdict.{asks, verdict}
+use Rattle.model.specs.Table.{ownsTask}
+use Rattle.model.specs.Verdict.{verdict}
 use Rattle.model.proofs.Tests.{le-tells}
 use Rattle.model.proofs.Tests as Tests
 use Rattle.model.proofs.Chains.{Holds, Joined, Chain, joined-tells, holds-tells, chain-last, chain-on, chain-here}
@@ -91,10 +92,10 @@ module _ (r x : Region) (j : Joined r x) where
     unfolding fromHolder
     by-either behind =
         go (holds base r) (holds base x)
-        ∙ ap (λ (b : Bool). judgeIn (pick b (merged r x ∷ behind) (fromHolder behind base)) d base size w) (sym (holds-both base))
+        ∙ ap (λ (b : Bool). judgeIn (cond b (merged r x ∷ behind) (fromHolder behind base)) d base size w) (sym (holds-both base))
       where
-        go : (b c : Bool) → judgeIn (pick b (r ∷ (x ∷ behind)) (pick c (x ∷ behind) (fromHolder behind base))) d base size w
-            ≡ judgeIn (pick (b || c) (merged r x ∷ behind) (fromHolder behind base)) d base size w
+        go : (b c : Bool) → judgeIn (cond b (r ∷ (x ∷ behind)) (cond c (x ∷ behind) (fromHolder behind base))) d base size w
+            ≡ judgeIn (cond (b || c) (merged r x ∷ behind) (fromHolder behind base)) d base size w
         go true c = ap (λ (t : Bool). refuseIf (not t) eObj (refuseIf (not (allows r d w)) eMacv none)) (from-first (base + size) behind)
         go false true = by-second behind
         go false false = refl
@@ -106,8 +107,8 @@ module _ (r x : Region) (j : Joined r x) where
     by-all (b ∷ l) behind = go (holds base b) (by-all l behind)
       where
         go : (t : Bool) → judgeIn (fromHolder (l ++ (r ∷ (x ∷ behind))) base) d base size w ≡ judgeIn (fromHolder (l ++ (merged r x ∷ behind)) base) d base size w
-            → judgeIn (pick t (b ∷ (l ++ (r ∷ (x ∷ behind)))) (fromHolder (l ++ (r ∷ (x ∷ behind))) base)) d base size w
-            ≡ judgeIn (pick t (b ∷ (l ++ (merged r x ∷ behind))) (fromHolder (l ++ (merged r x ∷ behind)) base)) d base size w
+            → judgeIn (cond t (b ∷ (l ++ (r ∷ (x ∷ behind)))) (fromHolder (l ++ (r ∷ (x ∷ behind))) base)) d base size w
+            ≡ judgeIn (cond t (b ∷ (l ++ (merged r x ∷ behind))) (fromHolder (l ++ (merged r x ∷ behind)) base)) d base size w
         go true ih = ap (λ (t : Bool). refuseIf (not t) eObj (refuseIf (not (allows b d w)) eMacv none)) (from-before (base + size) b l behind)
         go false ih = ih
 
@@ -120,7 +121,7 @@ pub count-as-one : (s : State) (before : List Region) (r x : Region) (behind : L
 unfolding verdict judge
 count-as-one s before r x behind j d base size w =
     ap
-    (λ (o : Option Err). refuseIf (not (s .fixed .closed)) eCtx (refuseIf (not (asks (s .fixed .count) d)) eId (refuseIf (not (areaOk base size w)) ePar o)))
+    (λ (o : Option Err). refuseIf (not (s .fixed .closed)) eCtx (refuseIf (not (ownsTask (s .fixed .count) d)) eId (refuseIf (not (areaOk base size w)) ePar o)))
     (by-all r x j d base size w before behind)
 
 -- "chains of any length too"

@@ -1,10 +1,10 @@
 -- Document 01's numbers ("Codes a desk clerk sees") as its table prints them, in each place where the program shows one. Assumes nothing.
 use mathlib.Core.Path.{_≡_, refl, sym, ap, _∙_}
+use mathlib.Core.Bool.{cond}
 use mathlib.Core.Option.{none, some}
 use Prim.Native.Nat.{ℕ, _^_}
 use lib.Dec.{eqb}
 use lib.IntN.{ℤ, pos, negsuc, negℤ}
-use Rattle.access.specs.Patterns.{pick}
 use Rattle.itron.specs.Codes.{Err, eRsatr, ePar, eId, eCtx, eMacv, eOacv, eNomem, eNoid, eObj, eNoexs, eQovr, eTmout, Code, ok, waiting, error, numberOf}
 use Rattle.itron.specs.Limits.{addressEnd}
 use Rattle.model.specs.declared.Outcome.{Outcome}
@@ -54,8 +54,8 @@ refusal-negative eTmout = (_, refl)
 -- no two answers look alike: not two refusals, not a refusal and E_OK, not "waiting" and a number
 abbrev refusalAt : ℕ → Err
 refusalAt k =
-    pick (eqb k 10) eRsatr (pick (eqb k 16) ePar (pick (eqb k 17) eId (pick (eqb k 24) eCtx (pick (eqb k 25) eMacv (pick (eqb k 26) eOacv
-    (pick (eqb k 32) eNomem (pick (eqb k 33) eNoid (pick (eqb k 40) eObj (pick (eqb k 41) eNoexs (pick (eqb k 42) eQovr eTmout))))))))))
+    cond (eqb k 10) eRsatr (cond (eqb k 16) ePar (cond (eqb k 17) eId (cond (eqb k 24) eCtx (cond (eqb k 25) eMacv (cond (eqb k 26) eOacv
+    (cond (eqb k 32) eNomem (cond (eqb k 33) eNoid (cond (eqb k 40) eObj (cond (eqb k 41) eNoexs (cond (eqb k 42) eQovr eTmout))))))))))
 
 abbrev meant : Outcome → Code
 meant (Outcome.Code (pos n)) = ok

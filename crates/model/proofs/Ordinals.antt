@@ -3,11 +3,11 @@ use Prim.Native.Nat.{ℕ, zero, suc, _-_, _<_}
 use native.Mathlib.Omega.{arith}
 use mathlib.Core.Path.{_≡_, refl, sym, ap, _∙_}
 use mathlib.Core.Logic.{_≢_}
-use mathlib.Core.Bool.{Bool, true, false, not, _&&_, and-false}
+use mathlib.Core.Bool.{Bool, true, false, cond, not, _&&_, and-false}
 use lib.Dec.{eqb, leb}
 use lib.IntN.{ℤ, pos, negsuc}
 use borrow.Author.Tests.{le-leb, ne-eqb}
-use Rattle.access.specs.Patterns.{pick, ordinalOf}
+use Rattle.access.specs.Domains.{ordinalOf}
 use Rattle.access.proofs.Ordinals.{ordinal-user}
 use Rattle.model.specs.State.{no}
 
@@ -18,7 +18,7 @@ outside (negsuc k) n h = refl
 outside (pos zero) n h = refl
 outside (pos (suc k)) n h = go (leb (suc k) n) refl h
   where
-    go : (b : Bool) → leb (suc k) n ≡ b → pick b (suc k) 0 ≡ 0 → not (eqb (suc k) 0) && leb (suc k) n ≡ false
+    go : (b : Bool) → leb (suc k) n ≡ b → cond b (suc k) 0 ≡ 0 → not (eqb (suc k) 0) && leb (suc k) n ≡ false
     go true e q = absurd (omega arith)
     go false e q = rw e (and-false (not (eqb (suc k) 0)))
 

@@ -1,10 +1,10 @@
 -- What one data queue sees of a call, and its part of demand 3 after any list of calls. Assumes nothing.
 use mathlib.Core.Path.{_≡_, refl, sym, ap, _∙_, subst}
 use mathlib.Core.Logic.{_≢_, inl}
-use mathlib.Core.Bool.{Bool, true, false, not}
+use mathlib.Core.Bool.{Bool, true, false, cond, not}
 use mathlib.Core.List.{List, [], _∷_, _++_, map, append-assoc, append-nil}
 use mathlib.Core.Option.{Option, none, some}
-use Prim.Native.Nat.{ℕ, zero, suc, _≤_}
+use Prim.Native.Nat.{ℕ, zero, suc}
 use native.Mathlib.Omega.{arith}
 use lib.ListN.{length, length-append}
 use lib.Dec.{eqb, T}
@@ -15,12 +15,12 @@ use Rattle.itron.specs.Codes.{Code, ok, waiting, error}
 use Rattle.model.specs.Lists.{at, keep, consIf, All, Each, words}
 use Rattle.model.specs.State.{Vector, Place, Fixed, Queue, receiving, sending, Waiter, State, place, queueAt, domainAt, waiter, setWaits, no}
 use Rattle.model.specs.Answers.{Effect, Released, Out, out, say, whenOk, whenWaiting, whenAccepted}
-use Rattle.model.specs.Waits.{Patience, standsAt, isOther, absent, join, receivers, senders}
+use Rattle.model.specs.Waits.{standsAt, isOther, absent, join, receivers, senders}
 use Rattle.model.specs.Acts.{Act, own, refer, setVector, ofOwn}
 use Rattle.model.specs.Rooms.{check, actOn, Asks, onObject}
 use Rattle.model.specs.Queues as Queues
 use Rattle.model.specs.Queues.{QueueCall, send, receive, room}
-use Rattle.model.specs.QueueClaims.{askedOf, byQueue, sent, sentIn, handed, Sender, sendIn, notTask, unreleased, waitingSends, senderOf, choose, maySend, mayReceive, SentAllowed, began, IsReceive, Came, TakenIn, TakenAllowed, Carried}
+use Rattle.model.specs.QueueClaims.{askedOf, byQueue, sent, sentIn, handed, Sender, sendIn, notTask, unreleased, waitingSends, senderOf, maySend, mayReceive, SentAllowed, began, IsReceive, Came, TakenIn, TakenAllowed, Carried}
 use Rattle.model.specs.Calls.{Op, onSemaphore, onQueue, Call, asks, step}
 use Rattle.model.specs.Conditions.{QueuesFit}
 use Rattle.model.specs.History.{History, event, Made, seenBy, after, history, askedIf, ofAsked, vectorSince, vectorBy, joined, without, pending}
@@ -28,10 +28,10 @@ use Rattle.model.specs.Demand3.{JustClosed}
 use Rattle.model.proofs.Lists.{absent-keep, all-keep, all-snoc, keep-append, keep-comm, eq-of, eqb-same, eqb-sym, and-left, and-right, no-both, Distinct}
 use Rattle.model.proofs.WaitQueues.{place-of}
 use Rattle.model.proofs.Fits.{queues-put, buffer-fits}
-use Rattle.model.proofs.Rooms.{roomOf, is-at, Calls, Passed, passed, Stranger, stranger, ok-same, accepted-same}
+use Rattle.model.proofs.Rooms.{roomOf, is-at, Calls, Passed, passed, stranger, ok-same, accepted-same}
 use Rattle.model.proofs.Semaphores as SemaphoreRoom
 use Rattle.model.proofs.Queues.{bare, laws, cover, flows, QView, qview-eq, qviewOf, content, QueueOk, Kept, stay}
-use Rattle.model.proofs.Cover.{Whose, mine, foreign, Sees, sees, keeps-records, entries-stay, vector-law, Endings, ends}
+use Rattle.model.proofs.Cover.{Whose, mine, foreign, sees, keeps-records, entries-stay, vector-law, Endings, ends}
 use Rattle.model.proofs.Steps.{distinct-law, fixed-law, waiters-are}
 
 -- ---- whose a call is, as the queues see it
@@ -105,7 +105,7 @@ module _ (s₀ s : State) (h : History) (i : Inv s₀ s h) where
         → All (λ (e : Waiter). Arrived (e .task) (byQueue q h)) l → All (λ (e : Waiter). Arrived (e .task) (m ∷ byQueue q h)) l
     still m [] w f k = tt
     still m (x ∷ l) w f k = (
-      subst (λ (b : Bool). choose b (ofAsked ⊥ IsReceive (m .asked) × T (mayReceive (domainAt s₀) (queueAt s₀ q .vector) (x .task) (byQueue q h))) (Arrived (x .task) (byQueue q h))) (sym other) (k .0),
+      subst (λ (b : Bool). cond b (ofAsked ⊥ IsReceive (m .asked) × T (mayReceive (domainAt s₀) (queueAt s₀ q .vector) (x .task) (byQueue q h))) (Arrived (x .task) (byQueue q h))) (sym other) (k .0),
       still m l w (and-right (isOther (m .caller) x) (absent (m .caller) l) f) (k .1),
     )
       where
@@ -168,7 +168,7 @@ module _ (s₀ s : State) (h : History) (i : Inv s₀ s h) where
 
           new : standsAt (place receiving q) e ≡ true → Arrived (e .task) (m ∷ byQueue q h)
           new y = let r = subst (λ (l : List Waiter). All (λ (x : Waiter). standsAt (place receiving q) x ≡ true → Receives t (askedOf q op)) l) b (begun t op p) .0 y in
-              subst (λ (k : Bool). choose k (ofAsked ⊥ IsReceive (m .asked) × T (mayReceive (domainAt s₀) (queueAt s₀ q .vector) (e .task) (byQueue q h))) (Arrived (e .task) (byQueue q h)))
+              subst (λ (k : Bool). cond k (ofAsked ⊥ IsReceive (m .asked) × T (mayReceive (domainAt s₀) (queueAt s₀ q .vector) (e .task) (byQueue q h))) (Arrived (e .task) (byQueue q h)))
               (sym newest)
               (rw g (r .0), rw z (r .1))
 

@@ -1,9 +1,9 @@
 -- Rooms: what each room proves of its own calls, and what follows for every act on one of its objects. Assumes nothing.
-use mathlib.Core.Path.{_≡_, refl, sym, ap, _∙_, subst}
+use mathlib.Core.Path.{_≡_, refl, sym, ap, _∙_}
 use mathlib.Core.Logic.{_≢_}
 use mathlib.Core.Bool.{Bool, true, false, not, _&&_}
 use mathlib.Core.List.{List, [], _∷_}
-use mathlib.Core.Option.{Option, none, some}
+use mathlib.Core.Option.{none, some}
 use Prim.Native.Nat.{ℕ, _≤_}
 use native.Mathlib.Omega.{arith}
 use lib.Dec.{eqb, leb, leb→le}
@@ -16,10 +16,10 @@ use Rattle.model.specs.State.{Vector, Waiter, Side, onSem, receiving, se
 use Rattle.model.specs.Answers.{Effect, Out, whenOk, whenAccepted}
 use Rattle.model.specs.Waits.{absent, waitersIn, firstTask}
 use Rattle.model.specs.Acts.{Act, own, refer, setVector, ofOwn, operationOf, isRefer}
-use Rattle.model.specs.Rooms.{Room, ready, inRange, admits, vectorAt, slotsOf, check, setVectorOf, actOn, onRecords, Asks, onObject}
-use Rattle.model.specs.History.{askedIf, vectorBy}
+use Rattle.model.specs.Rooms.{Room, ready, inRange, admits, vectorAt, slotsOf, check, actOn, onRecords, Asks, onObject}
+use Rattle.model.specs.History.{vectorBy}
 use Rattle.model.specs.Conditions.{Plain}
-use Rattle.model.proofs.Lists.{eq-of, ne-of, and-left, and-right, no-both, both, eqb-same, eqb-no, Distinct, at-put-same, at-put-other}
+use Rattle.model.proofs.Lists.{eq-of, and-left, and-right, no-both, both, eqb-same, eqb-no, Distinct, at-put-same}
 use Rattle.model.proofs.Tests.{true-tells, passed-by}
 use Rattle.model.proofs.Endings.{SameBut, same-all, same-put, Ends, frame, keeps, not-denied}
 

@@ -7,7 +7,6 @@ use native.Mathlib.Omega.{arith}
 use lib.ListN.{length}
 use borrow.Author.Tests.{leb-false}
 use Rattle.itron.specs.Codes.{Code}
-use Rattle.model.specs.Lists.{at, put}
 use Rattle.model.specs.State.{Sem, Waiter, onSem, State, place, noSem, semAt}
 use Rattle.model.specs.Answers.{whenOk}
 use Rattle.model.specs.Waits.{waitersIn}
@@ -19,10 +18,10 @@ use Rattle.model.specs.Calls.{Op, onSemaphore, onQueue, Call, step}
 use Rattle.model.specs.Conditions.{Within, Spent}
 use Rattle.model.specs.History.{event, seenBy, vectorBy, after, history}
 use Rattle.model.proofs.Lists.{Distinct, at-put-same, at-put-keep, cons-ne}
-use Rattle.model.proofs.Rooms.{is-at, Passed, stranger, ok-same}
+use Rattle.model.proofs.Rooms.{is-at, stranger}
 use Rattle.model.proofs.Semaphores.{bare, laws, cover, counts}
 use Rattle.model.proofs.Queues as QueueRoom
-use Rattle.model.proofs.Cover.{Whose, mine, foreign, Sees, sees, entries-stay, vector-law}
+use Rattle.model.proofs.Cover.{Whose, mine, foreign, sees, entries-stay, vector-law}
 
 -- ---- whose a call is, as the semaphores see it
 pub whose : (op : Op) → Whose room laws askedOf op

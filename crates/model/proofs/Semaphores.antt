@@ -9,7 +9,7 @@ use native.Mathlib.Omega.{arith}
 use lib.Dec.{leb}
 use lib.ListN.{length}
 use Rattle.access.specs.Vectors.{patternOf}
-use Rattle.itron.specs.Codes.{Err, error, eOacv, eQovr, eTmout, waiting}
+use Rattle.itron.specs.Codes.{Err, error, eQovr, eTmout, waiting}
 use Rattle.model.specs.Lists.{All}
 use Rattle.model.specs.State.{Vector, Sem, Waiter, onSem, place, waiter, noSem, zeroVector}
 use Rattle.model.specs.Answers.{Effect, effect, say, whenOk}

@@ -1,7 +1,6 @@
 -- The condition that all states have in common is kept by every call
-use mathlib.Core.Path.{_≡_, refl, sym, ap, _∙_, subst}
+use mathlib.Core.Path.{_≡_, sym, ap, _∙_, subst}
 use mathlib.Core.Bool.{false}
-use mathlib.Core.List.{List}
 use Prim.Native.Nat.{ℕ}
 use Rattle.itron.specs.Codes.{eCtx}
 use Rattle.model.specs.State.{Fixed, State, no}

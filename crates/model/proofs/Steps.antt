@@ -1,10 +1,10 @@
 -- What one call does, whatever it asks of whom: to the waiting tasks, to what is fixed, and what a refusal and an answer that is no refer's leave out
-use mathlib.Core.Path.{_≡_, refl, sym, ap, _∙_, subst}
+use mathlib.Core.Path.{_≡_, refl, sym, ap, _∙_}
 use mathlib.Core.Bool.{Bool, true, false}
 use mathlib.Core.List.{List, [], _∷_, _++_, append-nil}
 use Prim.Native.Nat.{ℕ}
 use Rattle.itron.specs.Codes.{Err, Code, ok, waiting, error}
-use Rattle.model.specs.State.{Waiter, State, no}
+use Rattle.model.specs.State.{Waiter, State}
 use Rattle.model.specs.Answers.{noInfo, Out, whenWaiting}
 use Rattle.model.specs.Waits.{isOther}
 use Rattle.model.specs.Rooms.{Asks}

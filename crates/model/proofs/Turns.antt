@@ -9,7 +9,7 @@ use native.Mathlib.Nat.{add-zero}
 use native.Mathlib.Omega.{arith}
 use lib.ListN.{length, drop, length-drop}
 use lib.Seq.{drop-drop}
-use Rattle.itron.specs.Codes.{Err, ok, waiting, error}
+use Rattle.itron.specs.Codes.{ok, waiting, error}
 use Rattle.model.specs.Lists.{consIf, total}
 use Rattle.model.specs.State.{Place, Waiter, State, setWaits, samePlace}
 use Rattle.model.specs.Answers.{Answer, Out, say, tells}

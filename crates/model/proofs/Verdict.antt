@@ -1,21 +1,22 @@
 -- The memory verdict (document 01): its sentences, each by plain facts of the table
 use mathlib.Core.Path.{_≡_, refl, sym, ap, _∙_, subst}
 use mathlib.Core.Logic.{_≢_, _⊎_, inl, inr}
-use mathlib.Core.Bool.{Bool, true, false, not}
+use mathlib.Core.Bool.{Bool, true, false, cond, not}
 use mathlib.Core.List.{List, [], _∷_, _++_}
 use mathlib.Core.Option.{none, some}
 use Prim.Native.Nat.{ℕ, zero, suc, _+_, _≤_, _<_, _/_, _%_}
 use native.Mathlib.Omega.{arith}
 use native.Mathlib.Nat.{div-one}
 use lib.IntN.{ℤ, pos, negsuc}
-use Rattle.access.specs.Patterns.{pick, admitted, bitAt}
+use Rattle.access.specs.Patterns.{admitted, bitAt}
 use Rattle.itron.specs.Codes.{eCtx, eId, ePar, eNoexs, eObj, eMacv}
 use Rattle.itron.specs.Limits.{addressEnd}
 use Rattle.model.specs.Answers.{refuseIf}
 use Rattle.model.specs.Lists.{All}
 use Rattle.model.specs.State.{Region, State, setFixed, setUnit}
 use Rattle.model.specs.Regions.{mayRead, grants, allows, holds, inChain, fromHolder, judgeIn, areaOk, judge}
-use Rattle.model.specs.Verdict.{asks, verdict}
+use Rattle.model.specs.Table.{ownsTask}
+use Rattle.model.specs.Verdict.{verdict}
 use Rattle.model.proofs.Lists.{no-both}
 use Rattle.model.proofs.Tests.{Tells, le-tells, eq-tells, true-tells, always-tells, never-tells, and-tells, not-tells, passes-on, stops-at, passed-by}
 use Rattle.model.proofs.Tests as Tests
@@ -65,7 +66,7 @@ pub record At (rs : List Region) (a : ℕ) (r : Region) : Type 0 where
   pub here : Holds a r
 
 -- ---- the tests tell these facts
-asker-tells : (n : ℕ) (d : ℤ) → Tells (asks n d) (Asker n d)
+asker-tells : (n : ℕ) (d : ℤ) → Tells (ownsTask n d) (Asker n d)
 asker-tells n (pos d) = and-tells (not-tells (eq-tells d 0)) (le-tells d n)
 asker-tells n (negsuc zero) = always-tells
 asker-tells n (negsuc (suc k)) = never-tells
@@ -94,13 +95,13 @@ unfolding fromHolder
 holder-at rs a r h = ap (λ (l : List Region). fromHolder l a) (h .split) ∙ go (h .before) (h .others)
   where
     go : (l : List Region) → All (λ (x : Region). Holds a x → ⊥) l → fromHolder (l ++ (r ∷ h .behind)) a ≡ r ∷ h .behind
-    go [] k = ap (λ (b : Bool). pick b (r ∷ h .behind) (fromHolder (h .behind) a)) (Tests.holds (holds-tells a r) (h .here))
-    go (x ∷ l) k = let m = l ++ (r ∷ h .behind) in ap (λ (b : Bool). pick b (x ∷ m) (fromHolder m a)) (Tests.fails (holds-tells a x) (k .0)) ∙ go l (k .1)
+    go [] k = ap (λ (b : Bool). cond b (r ∷ h .behind) (fromHolder (h .behind) a)) (Tests.holds (holds-tells a r) (h .here))
+    go (x ∷ l) k = let m = l ++ (r ∷ h .behind) in ap (λ (b : Bool). cond b (x ∷ m) (fromHolder m a)) (Tests.fails (holds-tells a x) (k .0)) ∙ go l (k .1)
 
 holder-none : (rs : List Region) (a : ℕ) → All (λ (x : Region). Holds a x → ⊥) rs → fromHolder rs a ≡ []
 unfolding fromHolder
 holder-none [] a k = refl
-holder-none (x ∷ rs) a k = ap (λ (b : Bool). pick b (x ∷ rs) (fromHolder rs a)) (Tests.fails (holds-tells a x) (k .0)) ∙ holder-none rs a (k .1)
+holder-none (x ∷ rs) a k = ap (λ (b : Bool). cond b (x ∷ rs) (fromHolder rs a)) (Tests.fails (holds-tells a x) (k .0)) ∙ holder-none rs a (k .1)
 
 -- ---- the verdict on a table s, asked for a domain, an area and wishes; first hit wins
 module _ (s : State) (d : ℤ) (base size w : ℕ) where
@@ -173,7 +174,7 @@ unfolding fromHolder
 holder-is [] a r l h = absurd (let z : _≡_ {A = ℕ} 0 1 = cc in omega arith)
 holder-is (x ∷ rs) a r l h = go (holds a x) refl (holder-is rs a r l) h
   where
-    go : (b : Bool) → holds a x ≡ b → (fromHolder rs a ≡ r ∷ l → (h : At rs a r) × (h .behind ≡ l)) → pick b (x ∷ rs) (fromHolder rs a) ≡ r ∷ l → (h : At (x ∷ rs) a r) × (h .behind ≡ l)
+    go : (b : Bool) → holds a x ≡ b → (fromHolder rs a ≡ r ∷ l → (h : At rs a r) × (h .behind ≡ l)) → cond b (x ∷ rs) (fromHolder rs a) ≡ r ∷ l → (h : At (x ∷ rs) a r) × (h .behind ≡ l)
     go true e f k =
         let q : x ≡ r = cc in
         (record { before = []; behind = rs; split = ap (λ (y : Region). y ∷ rs) q; others = tt; here = subst (λ (y : Region). Holds a y) q (holds-tells a x .yes e) }, cc)
@@ -185,7 +186,7 @@ pub ok-only : (s : State) (d : ℤ) (base size w : ℕ) → verdict s d base siz
 unfolding verdict judge
 ok-only s d base size w h = go (fromHolder (s .fixed .regions) base) refl (h₃ .1)
   where
-    h₁ : (s .fixed .closed ≡ true) × (refuseIf (not (asks (s .fixed .count) d)) eId (judge (s .fixed .regions) d base size w) ≡ none)
+    h₁ : (s .fixed .closed ≡ true) × (refuseIf (not (ownsTask (s .fixed .count) d)) eId (judge (s .fixed .regions) d base size w) ≡ none)
     h₁ = passed-by (true-tells (s .fixed .closed)) _ _ h
 
     h₂ : Asker (s .fixed .count) d × (judge (s .fixed .regions) d base size w ≡ none)

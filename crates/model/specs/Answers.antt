@@ -10,7 +10,7 @@ pub use Rattle.model.specs.declared.Info.{Info}
 pub use Rattle.model.specs.declared.Reply.{Reply}
 use Rattle.model.specs.declared.Outcome.{Outcome}
 use Rattle.model.specs.declared.Outcome.the-variants as Outcome
-use Rattle.model.specs.State.{Vector, State, Waiter, zeroVector}
+use Rattle.model.specs.State.{State, Waiter, zeroVector}
 
 -- an answer carries a code or "waiting", the word if any, and the released tasks with their words
 pub record Answer : Type 0 where

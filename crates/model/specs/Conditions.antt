@@ -70,7 +70,7 @@ pub record UnitFits (f : Fixed) : Type 0 where
   pub power : unitOk (f .unit) ≡ true
   pub whole : All (Whole (f .unit)) (f .regions)
 
--- ---- the state keeps document 01's limits
+-- ---- the state keeps the limits of documents 01 and 02
 pub record Fit (s : State) : Type 0 where
   pub waits : WaitsFit (s .fixed .domains) (s .waits)
   pub sems : length (s .sems) ≤ maxSemaphores

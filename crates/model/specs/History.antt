@@ -1,6 +1,6 @@
 -- Histories: the list of calls from a state on, what each answered, and what one object sees of them. Definitions only.
 use mathlib.Core.Bool.{Bool, true, false}
-use mathlib.Core.List.{List, [], _∷_, _++_, map}
+use mathlib.Core.List.{List, [], _∷_, _++_}
 use mathlib.Core.Option.{Option, none, some}
 use Prim.Native.Nat.{ℕ}
 use Rattle.itron.specs.Codes.{Code}

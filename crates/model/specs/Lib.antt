@@ -4,6 +4,7 @@ pub mod Answers
 pub mod Waits
 pub mod Acts
 pub mod Rooms
+pub mod Checks
 pub mod Semaphores
 pub mod Queues
 pub mod Units

@@ -4,6 +4,11 @@ use mathlib.Core.List.{List, [], _∷_, _++_, map}
 use Prim.Native.Nat.{ℕ, zero, suc, _+_}
 use lib.ListN.{getD, set}
 
+-- the index of a number: numbers count from 1, indexes from 0
+abbrev pub index : ℕ → ℕ
+index zero = zero
+index (suc n) = n
+
 module _ {A : Type 0} where
   -- the element with a number; d where there is none
   abbrev pub at : A → List A → ℕ → A

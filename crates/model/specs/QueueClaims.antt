@@ -1,6 +1,6 @@
 -- What is claimed of the calls on one data queue: its part of demand 3. Definitions only.
 use mathlib.Core.Path.{_≡_}
-use mathlib.Core.Bool.{Bool, true, false, not, _&&_}
+use mathlib.Core.Bool.{Bool, true, false, cond, not, _&&_}
 use mathlib.Core.List.{List, [], _∷_, _++_, map}
 use mathlib.Core.Option.{Option, none}
 use Prim.Native.Nat.{ℕ}
@@ -72,10 +72,6 @@ senderOf e = record { task = e .task; word = e .word }
 abbrev pub wordsIn : List Waiter → List ℕ
 wordsIn l = map (λ (e : Waiter). e .word) l
 
-abbrev pub choose : Bool → Type 0 → Type 0 → Type 0
-choose true A B = A
-choose false A B = B
-
 -- a call of task t that answered "waiting"
 abbrev pub began : ℕ → Made QueueCall → Bool
 began t m = whenWaiting false true (m .answer .code) && eqb t (m .caller)
@@ -102,7 +98,7 @@ module _ (domain : ℕ → ℤ) (v : Vector) where
   -- task t's newest call that answered "waiting" was a receive from this queue, and was admitted when it called
   abbrev pub Came : ℕ → List (Made QueueCall) → Type 0
   Came t [] = ⊥
-  Came t (m ∷ h) = choose (began t m) (ofAsked ⊥ IsReceive (m .asked) × T (mayReceive t h)) (Came t h)
+  Came t (m ∷ h) = cond (began t m) (ofAsked ⊥ IsReceive (m .asked) × T (mayReceive t h)) (Came t h)
 
   -- a word handed out went to the receive's own caller, or to a receiver that a send released, which was admitted at its own receive
   abbrev pub TakenIn : Made QueueCall → List (Made QueueCall) → QueueCall → Type 0

@@ -17,7 +17,7 @@ pub use Rattle.model.specs.declared.dtq.QueueCall.the-variants.{Send as 
 use Rattle.model.specs.declared.dtq.QueueRequest.{QueueRequest}
 use Rattle.model.specs.declared.dtq.QueueRequest.the-variants as Request
 use Rattle.model.specs.Lists.{at, put}
-use Rattle.model.specs.State.{Vector, Queue, Waiter, Place, State, receiving, sending, place, waiter, noQueue, setWaits, setQueues}
+use Rattle.model.specs.State.{Vector, Queue, Waiter, Place, receiving, sending, place, waiter, noQueue, setWaits, setQueues}
 use Rattle.model.specs.Answers.{Effect, Info, whenOk, whenAccepted}
 use Rattle.model.specs.Waits.{Patience, waitersIn, firstTask, wakes, orWaits, gives}
 use Rattle.model.specs.Acts.{Act, own, refer, setVector, Slots, clear}

@@ -1,11 +1,12 @@
 -- Memory regions and the memory verdict (document 01, "Building the table", "The memory verdict"). Definitions only.
-use mathlib.Core.Bool.{Bool, true, false, not, _&&_, _||_}
+use mathlib.Core.Bool.{Bool, true, false, cond, not, _&&_, _||_}
 use mathlib.Core.List.{List, [], _∷_}
 use mathlib.Core.Option.{Option, none, some}
 use Prim.Native.Nat.{ℕ, _+_}
 use lib.Dec.{eqb, leb, ltb}
 use lib.IntN.{ℤ}
-use Rattle.access.specs.Patterns.{pick, sameDomain, admitted, bitAt}
+use Rattle.access.specs.Domains.{sameDomain}
+use Rattle.access.specs.Patterns.{admitted, bitAt}
 use Rattle.access.specs.Vectors.{sameVector, resolved}
 use Rattle.access.specs.declared.vector.Choice.{Choice}
 use Rattle.itron.specs.Codes.{Err, ePar, eNoexs, eObj, eMacv}
@@ -116,7 +117,7 @@ holds a r = leb (r .base) a && ltb a (end r)
 -- the regions from the one that holds an address on; none where no region holds it
 unfoldable pub fromHolder : List Region → ℕ → List Region
 fromHolder [] a = []
-fromHolder (r ∷ rs) a = pick (holds a r) (r ∷ rs) (fromHolder rs a)
+fromHolder (r ∷ rs) a = cond (holds a r) (r ∷ rs) (fromHolder rs a)
 
 -- no region holds the base: E_NOEXS; the area leaves the chain of that region: E_OBJ; a wish denied: E_MACV
 abbrev pub judgeIn : List Region → ℤ → ℕ → ℕ → ℕ → Option Err

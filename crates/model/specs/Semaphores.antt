@@ -16,7 +16,7 @@ pub use Rattle.model.specs.declared.sem.SemaphoreCall.the-variants.{Sign
 use Rattle.model.specs.declared.sem.SemaphoreRequest.{SemaphoreRequest}
 use Rattle.model.specs.declared.sem.SemaphoreRequest.the-variants as Request
 use Rattle.model.specs.Lists.{at, put}
-use Rattle.model.specs.State.{Vector, Sem, Waiter, Place, State, onSem, place, waiter, noSem, setWaits, setSems}
+use Rattle.model.specs.State.{Vector, Sem, Waiter, Place, onSem, place, waiter, noSem, setWaits, setSems}
 use Rattle.model.specs.Answers.{Effect, Info, whenOk}
 use Rattle.model.specs.Waits.{Patience, waitersIn, firstTask, refusal, wakes, orWaits, gives}
 use Rattle.model.specs.Acts.{Act, own, refer, setVector, Slots, clear}

@@ -1,5 +1,5 @@
 -- The memory verdict (document 01). Definitions only.
-use mathlib.Core.Bool.{Bool, not}
+use mathlib.Core.Bool.{not}
 use mathlib.Core.Option.{Option}
 use Prim.Native.Nat.{ℕ}
 use lib.IntN.{ℤ}
@@ -9,13 +9,9 @@ use Rattle.model.specs.Answers.{refuseIf}
 use Rattle.model.specs.Table.{ownsTask}
 use Rattle.model.specs.Regions.{judge}
 
--- it is asked for -1 and for 1 to n, the domains that a task can have
-abbrev pub asks : ℕ → ℤ → Bool
-asks n d = ownsTask n d
-
--- first hit wins: table not closed E_CTX; domain not -1 and not 1 to n E_ID; then the area, its region and the wishes
+-- first hit wins: table not closed E_CTX; domain not -1 and not 1 to n, the domains that a task can have, E_ID; then the area, its region and the wishes
 unfoldable pub verdict : State → ℤ → ℕ → ℕ → ℕ → Option Err
 verdict s d base size w =
     refuseIf (not (s .fixed .closed)) eCtx
-    (refuseIf (not (asks (s .fixed .count) d)) eId
+    (refuseIf (not (ownsTask (s .fixed .count) d)) eId
     (judge (s .fixed .regions) d base size w))

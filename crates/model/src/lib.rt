@@ -5,6 +5,7 @@ use crate::dtq::QueueRequest;
 use crate::sem::SemaphoreRequest;
 use access::vector::Vector;
 
+pub mod check;
 pub mod dtq;
 pub mod sem;
 

@@ -3,7 +3,7 @@ use Prim.Native.Nat.{ℕ, suc, _+_, _-_, _*_, _/_, _^_, _≤_, _<_}
 use native.Mathlib.Omega.{arith}
 use native.Mathlib.Nat.{pow-suc, eq-or-lt-of-le}
 use mathlib.Core.Path.{_≡_, refl, sym, ap, subst, _∙_}
-use mathlib.Core.Bool.{Bool, true, false}
+use mathlib.Core.Bool.{Bool, true, false, cond}
 use mathlib.Core.List.{List}
 use mathlib.Core.Logic.{⊎-elim}
 use lib.Dec.{leb}
@@ -11,7 +11,6 @@ use lib.ListN.{getD}
 use lib.Pow.{pow-pos}
 use borrow.Author.Tests.{leb-true, leb-false}
 use Rattle.itron.specs.Limits.{maxRegions}
-use Rattle.access.specs.Patterns.{pick}
 use Rattle.regions.specs.declared.search.Found.the-variants.{At, Nothing}
 use Rattle.regions.specs.Search.{InOrder, coveredBy, lookup}
 use Rattle.regions.proofs.Searches.{starts-past, ends-before, one-decides}
@@ -55,15 +54,15 @@ module _ (bs ss : List ℕ) (n a : ℕ) where
               (eq-or-lt-of-le {n = m} {m = k} (omega arith));
         }
 
-    looked : ((k : ℕ) → m + half ≤ k → k < n → first + half * 2 ≤ k) → Left (pick (leb (getD bs m 0) a) m first) half
+    looked : ((k : ℕ) → m + half ≤ k → k < n → first + half * 2 ≤ k) → Left (cond (leb (getD bs m 0) a) m first) half
     looked q = go (leb (getD bs m 0) a) refl
       where
-        go : (b : Bool) → leb (getD bs m 0) a ≡ b → Left (pick b m first) half
+        go : (b : Bool) → leb (getD bs m 0) a ≡ b → Left (cond b m first) half
         go true e = upper q (leb-true (getD bs m 0) a e)
         go false e = lower (leb-false (getD bs m 0) a e)
 
   -- ---- the one region that is left decides
-  one-left : (first : ℕ) → Left first 1 → lookup bs ss a 0 n ≡ pick (coveredBy (getD bs first 0) (getD ss first 0) a) (At first) Nothing
+  one-left : (first : ℕ) → Left first 1 → lookup bs ss a 0 n ≡ cond (coveredBy (getD bs first 0) (getD ss first 0) a) (At first) Nothing
   one-left first v =
       let i = v .inside in
       one-decides bs ss a n 0 first (omega arith) (omega arith)
@@ -80,13 +79,13 @@ module _ {bs ss : List ℕ} {n a first half : ℕ} (v : Left bs ss n a first (ha
 
   module _ (o : InOrder bs ss n) where
     -- twice the half are left
-    pub half-of-these : 2 * half ≤ n → Left bs ss n a (pick (leb (getD bs (first + half) 0) a) (first + half) first) half
+    pub half-of-these : 2 * half ≤ n → Left bs ss n a (cond (leb (getD bs (first + half) 0) a) (first + half) first) half
     half-of-these h =
         let w = v .within (omega arith) in
         looked bs ss n a o first half (first + half) v s (omega arith) (omega arith) (omega arith) (λ k l l′. omega arith)
 
     -- all are left, and fewer than that
-    pub half-of-all : n < 2 * half → half < n → Left bs ss n a (pick (leb (getD bs (n - half) 0) a) (n - half) first) half
+    pub half-of-all : n < 2 * half → half < n → Left bs ss n a (cond (leb (getD bs (n - half) 0) a) (n - half) first) half
     half-of-all h h′ =
         let e = v .all (omega arith) in
         looked bs ss n a o first half (n - half) v s (omega arith) (omega arith) (omega arith) (λ k l l′. absurd (omega arith))
@@ -133,5 +132,5 @@ module _ {bs ss : List ℕ} {n a : ℕ} where
         let f = h .few in
         record { begun = omega arith; halves = ap (λ (w : ℕ). w / 2) e; few = omega arith; left = subst (Left bs ss n a first′) e v }
 
-    pub decides : rounds ≤ round → lookup bs ss a 0 n ≡ pick (coveredBy (getD bs first 0) (getD ss first 0) a) (At first) Nothing
+    pub decides : rounds ≤ round → lookup bs ss a 0 n ≡ cond (coveredBy (getD bs first 0) (getD ss first 0) a) (At first) Nothing
     decides l = let e : rounds - round ≡ 0 = omega arith in one-left bs ss n a first (subst (λ (k : ℕ). Left bs ss n a first (2 ^ k)) e (h .left))

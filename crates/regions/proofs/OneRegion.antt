@@ -2,13 +2,12 @@
 use Prim.Native.Nat.{ℕ, zero, suc, _≤_, _<_}
 use native.Mathlib.Omega.{arith}
 use mathlib.Core.Path.{_≡_, refl, ap, _∙_}
-use mathlib.Core.Bool.{Bool, true, false}
+use mathlib.Core.Bool.{Bool, true, false, cond}
 use mathlib.Core.List.{List, [], _∷_}
 use lib.Dec.{leb, ltb}
 use lib.ListN.{length, getD, drop}
 use borrow.Author.Tests.{leb-true, ltb-true, ltb-false}
 use Rattle.model.specs.State.{Region, noRegion}
-use Rattle.access.specs.Patterns.{pick}
 use Rattle.model.specs.Regions.{end, holds, fromHolder}
 use Rattle.model.specs.Conditions.{Ascending, RegionsFit}
 use Rattle.model.proofs.Lists.{and-left, and-right}
@@ -56,9 +55,9 @@ passed a r rs g i l h = go (holds a r) refl
 holder-at : (a : ℕ) (rs : List Region) → Ascending rs → (i : ℕ) → i < length rs → holds a (getD rs i noRegion) ≡ true → fromHolder rs a ≡ drop i rs
 unfolding fromHolder
 holder-at a [] g i l h = absurd (omega arith)
-holder-at a (r ∷ rs) g zero l h = ap (λ (b : Bool). pick b (r ∷ rs) (fromHolder rs a)) h
+holder-at a (r ∷ rs) g zero l h = ap (λ (b : Bool). cond b (r ∷ rs) (fromHolder rs a)) h
 holder-at a (r ∷ rs) g (suc i) l h =
-    ap (λ (b : Bool). pick b (r ∷ rs) (fromHolder rs a)) (passed a r rs g i (omega arith) h) ∙ holder-at a rs (tail r rs g) i (omega arith) h
+    ap (λ (b : Bool). cond b (r ∷ rs) (fromHolder rs a)) (passed a r rs g i (omega arith) h) ∙ holder-at a rs (tail r rs g) i (omega arith) h
 
 module _ (a : ℕ) (rs : List Region) (f : RegionsFit rs) where
   -- a region before another cannot hold an address that the other holds
@@ -86,7 +85,7 @@ module _ (a : ℕ) (rs : List Region) (f : RegionsFit rs) where
 pub no-holder : (a : ℕ) (rs : List Region) → ((i : ℕ) → i < length rs → holds a (getD rs i noRegion) ≡ false) → fromHolder rs a ≡ []
 unfolding fromHolder
 no-holder a [] h = refl
-no-holder a (r ∷ rs) h = ap (λ (b : Bool). pick b (r ∷ rs) (fromHolder rs a)) (h zero (omega arith)) ∙ no-holder a rs (λ i l. h (suc i) (omega arith))
+no-holder a (r ∷ rs) h = ap (λ (b : Bool). cond b (r ∷ rs) (fromHolder rs a)) (h zero (omega arith)) ∙ no-holder a rs (λ i l. h (suc i) (omega arith))
 
 -- the arrays hold the regions in this order
 pub in-order : {r : Regions} → Held r → InOrder (r .bases) (r .sizes) (r .count)

@@ -3,7 +3,7 @@ use Prim.Native.Nat.{ℕ, zero, suc, _+_, _-_, _≤_, _<_}
 use native.Mathlib.Omega.{arith}
 use native.Mathlib.Nat.{eq-or-lt-of-le}
 use mathlib.Core.Path.{_≡_, refl, sym, ap, _∙_}
-use mathlib.Core.Bool.{Bool, true, false}
+use mathlib.Core.Bool.{Bool, true, false, cond}
 use mathlib.Core.Logic.{⊎-elim}
 use mathlib.Core.List.{List, [], _∷_}
 use lib.Dec.{ltb}
@@ -12,7 +12,6 @@ use lib.Seq.{drop-cons}
 use borrow.Author.Tests.{ltb-true, ltb-false, le-leb, lt-leb, le-ltb, lt-ltb}
 use types.Run.{OneOf}
 use denote.Enum.Declared.{tagOf}
-use Rattle.access.specs.Patterns.{pick}
 use Rattle.model.specs.State.{Region, noRegion}
 use Rattle.model.specs.Regions.{holds, fromHolder}
 use Rattle.regions.specs.declared.search.Found.{Found}
@@ -52,20 +51,20 @@ module _ (bs ss : List ℕ) (a : ℕ) where
   unfolding lookup
   none-holds zero i h = refl
   none-holds (suc n) i h =
-      ap (λ (b : Bool). pick b (At i) (lookup bs ss a (suc i) n)) (h i (omega arith) (omega arith))
+      ap (λ (b : Bool). cond b (At i) (lookup bs ss a (suc i) n)) (h i (omega arith) (omega arith))
       ∙ none-holds n (suc i) (λ k l l′. h k (omega arith) (omega arith))
 
   pub one-decides : (n i m : ℕ) → i ≤ m → m < i + n → ((k : ℕ) → k < m → test k ≡ false) → ((k : ℕ) → m < k → k < i + n → test k ≡ false)
-      → lookup bs ss a i n ≡ pick (test m) (At m) Nothing
+      → lookup bs ss a i n ≡ cond (test m) (At m) Nothing
   unfolding lookup
   one-decides zero i m l l′ f g = absurd (omega arith)
   one-decides (suc n) i m l l′ f g =
       ⊎-elim
       (λ e.
-      ap (pick (test i) (At i)) (none-holds n (suc i) (λ k h h′. g k (omega arith) (omega arith)))
-      ∙ ap (λ (k : ℕ). pick (test k) (At k) Nothing) e)
+      ap (cond (test i) (At i)) (none-holds n (suc i) (λ k h h′. g k (omega arith) (omega arith)))
+      ∙ ap (λ (k : ℕ). cond (test k) (At k) Nothing) e)
       (λ h.
-      ap (λ (b : Bool). pick b (At i) (lookup bs ss a (suc i) n)) (f i h)
+      ap (λ (b : Bool). cond b (At i) (lookup bs ss a (suc i) n)) (f i h)
       ∙ one-decides n (suc i) m (omega arith) (omega arith) f (λ k h′ h″. g k h′ (omega arith)))
       (eq-or-lt-of-le l)
 
@@ -75,7 +74,7 @@ module _ (bs ss : List ℕ) (a : ℕ) where
   lookup-low zero i k h = absurd (let z : _≡_ {A = ℕ} 0 1 = cc in omega arith)
   lookup-low (suc n) i k h = go (test i) h (lookup-low n (suc i) k)
     where
-      go : (b : Bool) → pick b (At i) (lookup bs ss a (suc i) n) ≡ At k → (lookup bs ss a (suc i) n ≡ At k → k < suc i + n) → k < i + suc n
+      go : (b : Bool) → cond b (At i) (lookup bs ss a (suc i) n) ≡ At k → (lookup bs ss a (suc i) n ≡ At k → k < suc i + n) → k < i + suc n
       go true h′ ih = let e : i ≡ k = cc in omega arith
       go false h′ ih = let l = ih h′ in omega arith
 
@@ -88,10 +87,10 @@ module _ (bs ss : List ℕ) (a : ℕ) where
         let x = getD rs i noRegion in
         ap (λ (l : List Region). fromHolder l a) (drop-cons rs i noRegion (omega arith))
         ∙ go (holds a x) (drop-cons rs i noRegion (omega arith)) (found-from n (suc i) (omega arith))
-        ∙ (let p = b i in let q = z i in λ j. foundFrom rs (pick (coveredBy (sym p j) (sym q j) a) (At i) (lookup bs ss a (suc i) n)))
+        ∙ (let p = b i in let q = z i in λ j. foundFrom rs (cond (coveredBy (sym p j) (sym q j) a) (At i) (lookup bs ss a (suc i) n)))
       where
         go : (t : Bool) → drop i rs ≡ getD rs i noRegion ∷ drop (suc i) rs → fromHolder (drop (suc i) rs) a ≡ foundFrom rs (lookup bs ss a (suc i) n)
-            → pick t (getD rs i noRegion ∷ drop (suc i) rs) (fromHolder (drop (suc i) rs) a) ≡ foundFrom rs (pick t (At i) (lookup bs ss a (suc i) n))
+            → cond t (getD rs i noRegion ∷ drop (suc i) rs) (fromHolder (drop (suc i) rs) a) ≡ foundFrom rs (cond t (At i) (lookup bs ss a (suc i) n))
         go true d ih = sym d
         go false d ih = ih
 

@@ -12,7 +12,7 @@ use Rattle.regions.specs.declared.state.Regions.{Regions}
 use Rattle.regions.specs.View.{regionsOf, infoOf}
 use Rattle.regions.specs.Form.{regionsAs}
 
--- the arrays are the form of what is seen of them, and that keeps document 01's limits
+-- the arrays are the form of what is seen of them, and that keeps the limits
 pub record Held (r : Regions) : Type 0 where
   pub form : r ≡ regionsAs (r .unit) (regionsOf r)
   pub fit : RegionsFit (regionsOf r)

@@ -1,11 +1,10 @@
 -- The search for the region that holds an address, over the lists of bases and sizes. Definitions only.
 use Prim.Native.Nat.{ℕ, zero, suc, _+_, _≤_, _<_}
-use mathlib.Core.Bool.{Bool, _&&_}
+use mathlib.Core.Bool.{Bool, cond, _&&_}
 use mathlib.Core.List.{List, []}
 use lib.Dec.{leb, ltb}
 use lib.ListN.{getD, drop}
 use Rattle.itron.specs.Limits.{maxRegions}
-use Rattle.access.specs.Patterns.{pick}
 use Rattle.model.specs.State.{Region}
 use Rattle.regions.specs.declared.search.Found.{Found}
 use Rattle.regions.specs.declared.search.Found.the-variants.{At, Nothing}
@@ -22,7 +21,7 @@ coveredBy start size a = leb start a && ltb a (start + size)
 -- the index of the first that holds an address, of n regions from index i on
 unfoldable pub lookup : List ℕ → List ℕ → ℕ → ℕ → ℕ → Found
 lookup bases sizes a i zero = Nothing
-lookup bases sizes a i (suc n) = pick (coveredBy (getD bases i 0) (getD sizes i 0) a) (At i) (lookup bases sizes a (suc i) n)
+lookup bases sizes a i (suc n) = cond (coveredBy (getD bases i 0) (getD sizes i 0) a) (At i) (lookup bases sizes a (suc i) n)
 
 -- the regions from the one that was found on
 abbrev pub foundFrom : List Region → Found → List Region

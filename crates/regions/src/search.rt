@@ -1,9 +1,9 @@
 // The search for the region that holds an address.
 ghost use mathlib.Core.Path.{_≡_};
+ghost use mathlib.Core.Bool.{cond};
 ghost use Prim.Native.Nat.{_≤_, _<_};
 ghost use lib.Dec.{leb};
 ghost use lib.ListN.{length, getD};
-ghost use Rattle.access.specs.Patterns.{pick};
 ghost use Rattle.regions.specs.Search.{InOrder, coveredBy, lookup};
 use itron::limit::MAX_REGIONS;
 
@@ -29,7 +29,7 @@ pub(crate) fn covers(start: u32, size: u32, address: u32) -> bool
 // Where the half that may hold an address begins: at the region in the middle if that starts at or below the address, else at the first.
 pub(crate) fn half_from<'a>(bases: &'a [u32], first: usize, middle: usize, address: u32) -> usize
     requires { ⌜ middle < length (now bases) ⌝ }
-    ensures { λ r. ⌜ r ≡ pick (leb (getD (now (bases .entry)) middle 0) address) middle first ⌝ }
+    ensures { λ r. ⌜ r ≡ cond (leb (getD (now (bases .entry)) middle 0) address) middle first ⌝ }
 {
     if bases[middle] <= address {
         return middle;

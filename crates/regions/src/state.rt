@@ -5,7 +5,8 @@ ghost use mathlib.Core.List.{[]};
 ghost use lib.ListN.{length, getD};
 ghost use Rattle.model.specs.Lists.{at};
 ghost use Rattle.model.specs.State.{noRegion};
-ghost use Rattle.regions.specs.View.{regionWith, regionsOf, infoOf};
+ghost use Rattle.model.specs.Regions.{end};
+ghost use Rattle.regions.specs.View.{regionWith, regionsOf, infoOf, shownAs};
 ghost use Rattle.regions.specs.Form.{regionsAs};
 ghost use Rattle.regions.specs.Held.{Held};
 use access::vector::Vector;
@@ -66,6 +67,13 @@ impl RegionInfo {
             size,
             vector,
         }
+    }
+
+    // The first address past the region, in 64 bits since it may be 2^32.
+    pub(crate) fn end(self) -> u64
+        ensures { λ r. ⌜ r ≡ end (shownAs self) ⌝ }
+    {
+        self.base as u64 + self.size as u64
     }
 }
 

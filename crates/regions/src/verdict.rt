@@ -2,7 +2,7 @@
 ghost use mathlib.Core.Path.{_≡_};
 ghost use lib.ListN.{drop};
 ghost use Rattle.model.specs.Answers.{resultOf};
-ghost use Rattle.model.specs.Regions.{end, mayWrite, mayRead, mayExecute, grants, allows, wishesOk, areaOk, judgeIn, judge};
+ghost use Rattle.model.specs.Regions.{mayWrite, mayRead, mayExecute, grants, allows, wishesOk, areaOk, judgeIn, judge};
 ghost use Rattle.regions.specs.View.{regionsOf, shownAs};
 ghost use Rattle.regions.specs.Held.{Held, Indexed};
 use crate::entry::is_area;
@@ -48,13 +48,6 @@ pub(crate) fn granted(wanted: bool, may: bool) -> bool
 }
 
 impl RegionInfo {
-    // The first address past the region, in 64 bits since it may be 2^32.
-    pub(crate) fn end(self) -> u64
-        ensures { λ r. ⌜ r ≡ end (shownAs self) ⌝ }
-    {
-        self.base as u64 + self.size as u64
-    }
-
     pub(crate) fn may_write(self, domain: i32) -> bool
         ensures { λ r. ⌜ r ≡ mayWrite (shownAs self) domain ⌝ }
     {

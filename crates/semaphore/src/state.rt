@@ -8,15 +8,15 @@ ghost use Rattle.model.specs.Lists.{put};
 ghost use Rattle.model.specs.State.{no};
 ghost use Rattle.model.specs.Rooms.{setVectorOf};
 ghost use Rattle.model.specs.Semaphores.{semIn, room};
-ghost use Rattle.tasks.specs.Checks.{targetIn};
+ghost use Rattle.model.specs.Checks.{targetIn};
 ghost use Rattle.semaphore.specs.View.{semsOf};
 ghost use Rattle.semaphore.specs.Form.{semsAs};
 ghost use Rattle.semaphore.specs.Held.{Held};
 use access::domain;
 use access::vector::Vector;
 use itron::limit::MAX_SEMAPHORES;
+use model::check::Target;
 use model::sem::Semaphore;
-use tasks::check::Target;
 
 // The first `count` records; the others are zeros.
 pub struct Semaphores {

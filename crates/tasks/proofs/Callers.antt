@@ -8,7 +8,7 @@ use lib.Dec.{eqb, leb}
 use lib.IntN.{ℤ, pos}
 use lib.ListN.{length, getD}
 use borrow.Author.Tests.{le-leb, lt-leb, ne-eqb}
-use Rattle.access.specs.Patterns.{ordinalOf}
+use Rattle.access.specs.Domains.{ordinalOf}
 use Rattle.model.specs.Lists.{at}
 use Rattle.model.specs.Waits.{absent}
 use Rattle.model.specs.State.{no}

@@ -7,9 +7,10 @@ use mathlib.Core.Bool.{false}
 use mathlib.Core.List.{List, [], _∷_, _++_, map}
 use lib.IntN.{ℤ, pos}
 use lib.ListN.{length, getD, take, set, length-map, length-append}
-use Rattle.arrays.specs.Pad.{pad, index}
+use Rattle.arrays.specs.Pad.{pad}
 use Rattle.arrays.proofs.Pads.{pad-take, pad-set, pad-snoc}
 use Rattle.itron.specs.Limits.{maxTasks}
+use Rattle.model.specs.Lists.{index}
 use Rattle.model.specs.State.{Waiter}
 use Rattle.model.specs.Waits.{absent, leave, join}
 use Rattle.model.specs.Conditions.{WaitsFit}

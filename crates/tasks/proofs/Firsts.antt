@@ -7,8 +7,7 @@ use mathlib.Core.List.{List, [], _∷_, map}
 use lib.ListN.{length, getD, take}
 use types.Run.{OneOf}
 use denote.Enum.Declared.{tagOf}
-use Rattle.arrays.specs.Pad.{index}
-use Rattle.model.specs.Lists.{All}
+use Rattle.model.specs.Lists.{index, All}
 use Rattle.model.specs.State.{Waiter, Place}
 use Rattle.model.specs.Waits.{standsAt, waitersIn, firstTask}
 use Rattle.model.specs.Conditions.{Known}

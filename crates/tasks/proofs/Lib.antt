@@ -8,5 +8,4 @@ pub mod Waiters
 pub mod Firsts
 pub mod Callers
 pub mod Ends
-pub mod Targets
 pub mod Rooms

@@ -4,16 +4,15 @@ use native.Mathlib.Omega.{arith}
 use native.Mathlib.Numerals.{add-one}
 use mathlib.Core.Path.{_≡_, refl, sym, ap, _∙_}
 use mathlib.Core.Logic.{_≢_}
-use mathlib.Core.Bool.{Bool, true, false, not}
+use mathlib.Core.Bool.{Bool, true, false, cond, not}
 use mathlib.Core.List.{List, [], _∷_, _++_, map, append-nil}
 use lib.Dec.{eqb}
 use lib.ListN.{length, getD, take, set, length-append}
 use lib.Seq.{take-suc}
-use Rattle.access.specs.Patterns.{pick}
-use Rattle.arrays.specs.Pad.{pad, index}
+use Rattle.arrays.specs.Pad.{pad}
 use Rattle.arrays.proofs.Pads.{pad-snoc}
 use Rattle.itron.specs.Limits.{maxTasks}
-use Rattle.model.specs.Lists.{consIf, keep, All}
+use Rattle.model.specs.Lists.{index, consIf, keep, All}
 use Rattle.model.specs.State.{Waiter}
 use Rattle.model.specs.Waits.{isOther}
 use Rattle.model.specs.Conditions.{Known}
@@ -38,7 +37,7 @@ without-step t i o h k =
     go (eqb t x) refl ∙ ap orderOf (sym (ap (without t) e ∙ keep-append (notIndex t) (take i o) (x ∷ [])))
   where
     go : (b : Bool) → eqb t (getD o i 0) ≡ b
-        → pick b (orderOf (without t (take i o))) (record { entries = set (pad maxTasks 0 (without t (take i o))) (length (without t (take i o))) (getD o i 0); count = length (without t (take i o)) + 1 })
+        → cond b (orderOf (without t (take i o))) (record { entries = set (pad maxTasks 0 (without t (take i o))) (length (without t (take i o))) (getD o i 0); count = length (without t (take i o)) + 1 })
         ≡ orderOf (without t (take i o) ++ without t (getD o i 0 ∷ []))
     go true e = rw e (ap orderOf (sym (append-nil (without t (take i o)))))
     go false e =

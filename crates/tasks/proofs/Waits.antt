@@ -2,12 +2,10 @@
 use Prim.Native.Nat.{ℕ, zero, suc}
 use mathlib.Core.Path.{_≡_, refl, sym, ap, _∙_}
 use mathlib.Core.Logic.{_≢_}
-use mathlib.Core.Bool.{Bool, true, false, not, _&&_}
+use mathlib.Core.Bool.{Bool, true, false, cond, not, _&&_}
 use mathlib.Core.List.{List, [], _∷_, _++_}
 use lib.Dec.{eqb}
-use Rattle.access.specs.Patterns.{pick}
-use Rattle.arrays.specs.Pad.{index}
-use Rattle.model.specs.Lists.{consIf, keep, All}
+use Rattle.model.specs.Lists.{index, consIf, keep, All}
 use Rattle.model.specs.State.{Waiter, waiter}
 use Rattle.model.specs.Waits.{isOther, absent}
 use Rattle.model.specs.Conditions.{Distinct, Plain, WordFits}
@@ -42,7 +40,7 @@ pub ready-absent : (t : ℕ) (l : List Waiter) → isReady (waitFor t l) ≡ abs
 ready-absent t [] = refl
 ready-absent t (e ∷ l) = go (eqb t (e .task)) (ready-absent t l)
   where
-    go : (b : Bool) → isReady (waitFor t l) ≡ absent t l → isReady (pick b (waitIn e) (waitFor t l)) ≡ not b && absent t l
+    go : (b : Bool) → isReady (waitFor t l) ≡ absent t l → isReady (cond b (waitIn e) (waitFor t l)) ≡ not b && absent t l
     go true h = busy-in e
     go false h = h
 
@@ -55,7 +53,7 @@ wait-snoc e (x ∷ l) h =
 
 pub wait-snoc-other : (t : ℕ) (e : Waiter) (l : List Waiter) → t ≢ e .task → waitFor t (l ++ (e ∷ [])) ≡ waitFor t l
 wait-snoc-other t e [] h = rw (eqb-no t (e .task) h)
-wait-snoc-other t e (x ∷ l) h = ap (pick (eqb t (x .task)) (waitIn x)) (wait-snoc-other t e l h)
+wait-snoc-other t e (x ∷ l) h = ap (cond (eqb t (x .task)) (waitIn x)) (wait-snoc-other t e l h)
 
 -- ---- one leaves
 pub wait-gone : (t : ℕ) (l : List Waiter) → waitFor t (keep (isOther t) l) ≡ Ready
@@ -70,9 +68,9 @@ pub wait-stays : (u t : ℕ) (l : List Waiter) → u ≢ t → waitFor u (keep (
 wait-stays u t [] n = refl
 wait-stays u t (x ∷ l) n = go (eqb t (x .task)) refl (wait-stays u t l n)
   where
-    go : (b : Bool) → eqb t (x .task) ≡ b → waitFor u (keep (isOther t) l) ≡ waitFor u l → waitFor u (consIf (not b) x (keep (isOther t) l)) ≡ pick (eqb u (x .task)) (waitIn x) (waitFor u l)
+    go : (b : Bool) → eqb t (x .task) ≡ b → waitFor u (keep (isOther t) l) ≡ waitFor u l → waitFor u (consIf (not b) x (keep (isOther t) l)) ≡ cond (eqb u (x .task)) (waitIn x) (waitFor u l)
     go true e h = rw (eqb-no u (x .task) (λ q. n (q ∙ sym (eq-of t (x .task) e)))) h
-    go false e h = ap (pick (eqb u (x .task)) (waitIn x)) h
+    go false e h = ap (cond (eqb u (x .task)) (waitIn x)) h
 
 -- ---- a waiting task, read back from what it does
 waiter-as : (t : ℕ) (d : Side) (k w : ℕ) → k ≢ 0 → WordFits d w → waiterOf t (waitAs d k w) ≡ waiter t d k w

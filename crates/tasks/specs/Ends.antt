@@ -1,14 +1,12 @@
 -- What the functions on the tasks give. Definitions only.
 use Prim.Native.Nat.{ℕ, suc}
-use mathlib.Core.Bool.{Bool, not, _&&_}
+use mathlib.Core.Bool.{Bool, cond, not, _&&_}
 use mathlib.Core.List.{List, [], _∷_}
 use lib.Dec.{eqb, leb}
 use lib.IntN.{ℤ, pos}
 use lib.ListN.{length}
-use Rattle.access.specs.Patterns.{pick}
-use Rattle.arrays.specs.Pad.{index}
 use Rattle.itron.specs.Codes.{okNumber}
-use Rattle.model.specs.Lists.{at}
+use Rattle.model.specs.Lists.{index, at}
 use Rattle.model.specs.State.{Waiter}
 use Rattle.model.specs.Answers.{Effect, replyOf}
 use Rattle.model.specs.Waits.{absent, leave}
@@ -37,11 +35,11 @@ isTask ds t = not (eqb t 0) && leb t (length ds)
 
 -- who calls: a registered ready task with its domain, or nobody who may
 abbrev pub callerOf : List ℤ → List Waiter → ℕ → Caller
-callerOf ds ws t = pick (isTask ds t && absent t ws) (Caller.Ready (index t) (at (pos 0) ds t)) Caller.Nobody
+callerOf ds ws t = cond (isTask ds t && absent t ws) (Caller.Ready (index t) (at (pos 0) ds t)) Caller.Nobody
 
 -- the task with a number; an unused cell where there is none
 abbrev pub taskOf : List ℤ → List Waiter → ℕ → Task
-taskOf ds ws t = pick (isTask ds t) (record { domain = at (pos 0) ds t; wait = waitFor t ws }) noTask
+taskOf ds ws t = cond (isTask ds t) (record { domain = at (pos 0) ds t; wait = waitFor t ws }) noTask
 
 -- a call's end that changes the tasks only
 abbrev pub endedOf : {R : Type 0} → List ℤ → Effect R → Ended

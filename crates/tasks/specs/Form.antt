@@ -1,12 +1,13 @@
 -- The one form in which the arrays hold the tasks: unused cells are zero, and what is held twice agrees. Definitions only.
 use Prim.Native.Nat.{ℕ, suc}
+use mathlib.Core.Bool.{cond}
 use mathlib.Core.List.{List, [], _∷_, map}
 use lib.Dec.{eqb}
 use lib.IntN.{ℤ}
 use lib.ListN.{length}
-use Rattle.access.specs.Patterns.{pick}
-use Rattle.arrays.specs.Pad.{pad, index}
+use Rattle.arrays.specs.Pad.{pad}
 use Rattle.itron.specs.Limits.{maxTasks}
+use Rattle.model.specs.Lists.{index}
 use Rattle.model.specs.State.{Waiter}
 use Rattle.model.specs.declared.Side.{Side}
 use Rattle.model.specs.declared.Side.the-variants.{OnSem as onSem, Receiving as receiving, Sending as sending}
@@ -27,7 +28,7 @@ waitIn e = waitAs (e .place .side) (e .place .number) (e .word)
 -- what a task does, by the list of all who wait
 abbrev pub waitFor : ℕ → List Waiter → Wait
 waitFor t [] = Ready
-waitFor t (e ∷ l) = pick (eqb t (e .task)) (waitIn e) (waitFor t l)
+waitFor t (e ∷ l) = cond (eqb t (e .task)) (waitIn e) (waitFor t l)
 
 -- the tasks after the first n, of these domains
 abbrev pub tasksFrom : ℕ → List ℤ → List Waiter → List Task

@@ -9,6 +9,8 @@ use Rattle.itron.specs.Limits.{maxTasks}
 use Rattle.model.specs.State.{Waiter}
 use Rattle.model.specs.Waits.{absent}
 use Rattle.model.specs.Conditions.{WaitsFit}
+use Rattle.model.specs.declared.check.Check.{Check}
+use Rattle.model.specs.declared.check.Check.the-variants.{Admitted}
 use Rattle.tasks.specs.declared.task.Wait.{Wait}
 use Rattle.tasks.specs.declared.task.Wait.the-variants.{Ready, OnSem, Receiving, Sending}
 use Rattle.tasks.specs.declared.state.Tasks.{Tasks}
@@ -32,3 +34,8 @@ isReady (Sending k w) = false
 pub record Free (ds : List ℤ) (ws : List Waiter) (task : ℕ) : Type 0 where
   pub low : task < length ds
   pub free : absent (suc task) ws ≡ true
+
+-- what an effect may take for granted of what the checks found: a caller that is admitted is a ready task, and its object is one of so many
+pub record Passed (ts : Tasks) (objects : ℕ) (check : Check) : Type 0 where
+  pub free : (task object : ℕ) → check ≡ Admitted task object → Free (domainsOf ts) (waitsOf ts) task
+  pub there : (task object : ℕ) → check ≡ Admitted task object → object < objects

@@ -3,4 +3,3 @@ pub mod Form
 pub mod Held
 pub mod Orders
 pub mod Ends
-pub mod Checks

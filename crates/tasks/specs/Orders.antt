@@ -1,10 +1,9 @@
 -- The order of arrival, on arrays. Definitions only.
 use Prim.Native.Nat.{ℕ, _+_}
-use mathlib.Core.Bool.{Bool, not}
+use mathlib.Core.Bool.{Bool, cond, not}
 use mathlib.Core.List.{List}
 use lib.Dec.{eqb}
 use lib.ListN.{length, set}
-use Rattle.access.specs.Patterns.{pick}
 use Rattle.arrays.specs.Pad.{pad}
 use Rattle.itron.specs.Limits.{maxTasks}
 use Rattle.model.specs.Lists.{keep}
@@ -21,4 +20,4 @@ abbrev pub without : ℕ → List ℕ → List ℕ
 without t l = keep (notIndex t) l
 
 abbrev pub keptOf : Order → ℕ → ℕ → Order
-keptOf o t left = pick (eqb left t) o (record { entries = set (o .entries) (o .count) t; count = o .count + 1 })
+keptOf o t left = cond (eqb left t) o (record { entries = set (o .entries) (o .count) t; count = o .count + 1 })

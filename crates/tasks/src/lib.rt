@@ -1,5 +1,4 @@
 // The tasks: what each does, and in which order those who wait began to (document 01, "Calls on an open gateway").
-pub mod check;
 pub mod order;
 pub mod state;
 pub mod task;

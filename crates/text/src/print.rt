@@ -1,4 +1,6 @@
 // Bytes and numbers on standard output. A line begins with its line feed.
+use crate::code::LONGEST_NAME;
+use crate::code::put_name;
 use crate::sign::magnitude;
 
 const STDOUT: i32 = 1;
@@ -22,6 +24,13 @@ pub fn signed(n: i32) {
         text(b"-");
     }
     io::print_decimal(STDOUT, magnitude(n));
+}
+
+// A result code by its name.
+pub fn code(number: i32) {
+    let mut name = [0u8; LONGEST_NAME];
+    let len = put_name(&mut name, number);
+    text(&name[..len]);
 }
 
 // An address, as document 01 writes it.

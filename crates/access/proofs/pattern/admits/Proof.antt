@@ -14,7 +14,8 @@ use mir.Facts.{toZ-ofZ}
 use borrow.Author.Needs.{needs}
 use borrow.Author.Tests.{eq-eqb}
 use Rattle.itron.specs.Limits.{maxDomains}
-use Rattle.access.specs.Patterns.{ordinalOf, admitted}
+use Rattle.access.specs.Domains.{ordinalOf}
+use Rattle.access.specs.Patterns.{admitted}
 use Rattle.access.proofs.Ordinals.{ordinal-le}
 use Rattle.access.proofs.Patterns.{admitted-kernel, admitted-nobody, admitted-user}
 use Rattle.access.proofs.pattern.admits.Statement.{statement}

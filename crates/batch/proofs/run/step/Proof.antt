@@ -1,11 +1,10 @@
 -- `run::step` meets its contract: too few words, a request. Assumes nothing.
 use Prim.Native.Nat.{_+_, _*_}
 use mathlib.Core.Path.{_≡_, sym, ap, _∙_, subst}
-use mathlib.Core.Bool.{Bool}
+use mathlib.Core.Bool.{Bool, cond}
 use mathlib.Core.Option.{Option, none}
 use lib.ListN.{length}
 use borrow.Author.Tests.{lt-leb, le-leb}
-use Rattle.access.specs.Patterns.{pick}
 use Rattle.model.specs.Calls.{Call}
 use Rattle.batch.specs.Encoding.{callWords, numbersAt, itemOf, itemAt}
 use Rattle.batch.specs.Made.{Performs}
@@ -26,7 +25,7 @@ returns : tie.Need-returns
 returns c =
     let a = c .before .before .before .args in
     let ws = a .calls .now in
-    let e : none ≡ itemAt ws (a .k) = sym (ap (λ (b : Bool). pick b (itemOf (numbersAt ws (a .k * callWords))) none) (lt-leb (a .k * callWords + callWords) (length ws) (c .before .if1 .taken))) in
+    let e : none ≡ itemAt ws (a .k) = sym (ap (λ (b : Bool). cond b (itemOf (numbersAt ws (a .k * callWords))) none) (lt-leb (a .k * callWords + callWords) (length ws) (c .before .if1 .taken))) in
     subst (λ (x : Option Call). Performs (a .state) x (c .refused .result)) e (c .refused .ensures)
 
 read-requires : tie.Need-read-requires
@@ -39,7 +38,7 @@ returns-2 : tie.Need-returns-2
 returns-2 c =
     let a = c .before .before .before .before .args in
     let ws = a .calls .now in
-    let e : itemOf (numbersAt ws (a .k * callWords)) ≡ itemAt ws (a .k) = sym (ap (λ (b : Bool). pick b (itemOf (numbersAt ws (a .k * callWords))) none) (le-leb (a .k * callWords + callWords) (length ws) (c .before .before .if1 .left))) in
+    let e : itemOf (numbersAt ws (a .k * callWords)) ≡ itemAt ws (a .k) = sym (ap (λ (b : Bool). cond b (itemOf (numbersAt ws (a .k * callWords))) none) (le-leb (a .k * callWords + callWords) (length ws) (c .before .before .if1 .left))) in
     subst (λ (x : Option Call). Performs (a .state) x (c .perform .result)) (ap itemOf (c .before .read .ensures) ∙ e) (c .perform .ensures)
 
 pub step-spec : {M : Type 1} → statement M

@@ -13,6 +13,9 @@ use Rattle.command.proofs.number.as_signed.Tie as tie
 enum-told : tie.Need-enum-told
 enum-told c = search needs
 
+enum-told-2 : tie.Need-enum-told-2
+enum-told-2 c = search needs
+
 enum-known-number : tie.Need-enum-known-number
 enum-known-number c = search needs
 
@@ -46,13 +49,17 @@ returns-3 c = search needs
 
 returns-4 : tie.Need-returns-4
 unfolding signedOf
-returns-4 c =
-    let p = c .before .before .number in
-    sym (ap signedOf (p .given .1) ∙ rw (le-ltb (p .given .0 .0) signedEnd (omega arith)))
+returns-4 c = search needs
 
 returns-5 : tie.Need-returns-5
 unfolding signedOf
 returns-5 c =
+    let p = c .before .before .number in
+    sym (ap signedOf (p .given .1) ∙ rw (le-ltb (p .given .0 .0) signedEnd (omega arith)))
+
+returns-6 : tie.Need-returns-6
+unfolding signedOf
+returns-6 c =
     let p = c .before .before .before .number2 in
     let v = p .given .0 .0 in
     let e : c .negative .result ≡ negated v = c .negative .ensures in
@@ -64,6 +71,7 @@ as-signed-spec =
     tie.close
     (tie.spec
     enum-told
+    enum-told-2
     enum-known-number
     cast-t6
     returns
@@ -73,4 +81,5 @@ as-signed-spec =
     negative-requires
     returns-3
     returns-4
-    returns-5)
+    returns-5
+    returns-6)

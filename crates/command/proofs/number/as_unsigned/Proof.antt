@@ -9,6 +9,9 @@ use Rattle.command.proofs.number.as_unsigned.Tie as tie
 enum-told : tie.Need-enum-told
 enum-told c = search needs
 
+enum-told-2 : tie.Need-enum-told-2
+enum-told-2 c = search needs
+
 enum-known-number : tie.Need-enum-known-number
 enum-known-number c = search needs
 
@@ -25,20 +28,26 @@ returns-2 c = search needs
 
 returns-3 : tie.Need-returns-3
 unfolding unsignedOf
-returns-3 c = sym (ap unsignedOf (c .before .number .given .1))
+returns-3 c = search needs
 
 returns-4 : tie.Need-returns-4
 unfolding unsignedOf
-returns-4 c = sym (ap unsignedOf (c .before .before .number2 .given .1) ∙ rw (ne-eqb _ _ (c .if1 .left)))
+returns-4 c = sym (ap unsignedOf (c .before .number .given .1))
+
+returns-5 : tie.Need-returns-5
+unfolding unsignedOf
+returns-5 c = sym (ap unsignedOf (c .before .before .number2 .given .1) ∙ rw (ne-eqb _ _ (c .if1 .left)))
 
 pub as-unsigned-spec : {M : Type 1} → statement M
 as-unsigned-spec =
     tie.close
     (tie.spec
     enum-told
+    enum-told-2
     enum-known-number
     enum-known-number-2
     returns
     returns-2
     returns-3
-    returns-4)
+    returns-4
+    returns-5)

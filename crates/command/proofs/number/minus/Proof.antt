@@ -8,6 +8,9 @@ use Rattle.command.proofs.number.minus.Tie as tie
 enum-told : tie.Need-enum-told
 enum-told c = search needs
 
+enum-told-2 : tie.Need-enum-told-2
+enum-told-2 c = search needs
+
 enum-known-magnitude : tie.Need-enum-known-magnitude
 enum-known-magnitude c = search needs
 
@@ -15,7 +18,10 @@ returns : tie.Need-returns
 returns c = search needs
 
 returns-2 : tie.Need-returns-2
-returns-2 c = sym (ap minusOf (c .before .magnitude .given .1))
+returns-2 c = search needs
+
+returns-3 : tie.Need-returns-3
+returns-3 c = sym (ap minusOf (c .before .magnitude .given .1))
 
 pub minus-spec : {M : Type 1} → statement M
-minus-spec = tie.close (tie.spec enum-told enum-known-magnitude returns returns-2)
+minus-spec = tie.close (tie.spec enum-told enum-told-2 enum-known-magnitude returns returns-2 returns-3)

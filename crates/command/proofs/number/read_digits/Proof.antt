@@ -3,7 +3,7 @@ use Prim.Native.Nat.{ℕ, _+_, _-_, _*_, _≤_, _<_}
 use mathlib.Core.Path.{_≡_, sym, ap, _∙_}
 use native.Mathlib.Omega.{arith}
 use lib.ListN.{length, drop, getD}
-use Rattle.command.specs.Numbers.{digitOf, valueFrom, fitted, magnitudeOf, plainEnd}
+use Rattle.command.specs.Numbers.{digitOf, valueFrom, fitted, tooLarge, magnitudeOf, plainEnd}
 use Rattle.command.proofs.Digits.{too-large, value-goes, value-none, value-end, magnitude-some, magnitude-empty}
 use borrow.Author.Needs.{needs}
 use Rattle.command.proofs.Digits.{fits-small}
@@ -79,14 +79,23 @@ more c =
     ∙ ap fitted (value-goes t (a .base) (l .loop .value) (l .loop .i) (c .before .before .before .before .before .loop-test .taken) d)
     ∙ rw (c .before .wide .ensures, c .wide2 .ensures, e)
 
-returns-3 : tie.Need-returns-3 Inv-loop μ-loop
-returns-3 c =
-    let b = c .before in
-    let a = b .before .before .before .before .before .before .before .before .before .args in
-    sym (more b ∙ too-large (a .base) _ _ (c .if3 .taken))
-
 add-i : tie.Need-add-i Inv-loop μ-loop
 add-i c = search needs
+
+rest-requires : tie.Need-rest-requires Inv-loop μ-loop
+rest-requires c κs = tt
+
+too-large-requires : tie.Need-too-large-requires Inv-loop μ-loop
+too-large-requires c κs = tt
+
+returns-3 : tie.Need-returns-3 Inv-loop μ-loop
+returns-3 c =
+    let r = c .before in
+    let w = r .before .before in
+    let a = w .before .before .before .before .before .before .before .before .before .args in
+    c .too-large .ensures
+    ∙ ap (tooLarge (a .base)) (r .rest .ensures)
+    ∙ sym (more w ∙ too-large (a .base) _ _ (r .before .if3 .taken))
 
 loop-less : tie.Need-loop-less Inv-loop μ-loop
 loop-less c = search needs
@@ -94,8 +103,8 @@ loop-less c = search needs
 loop-again : tie.Need-loop-again Inv-loop μ-loop
 loop-again c = (search needs, search needs, more (c .before))
 
-cast-t15 : tie.Need-cast-t15 Inv-loop μ-loop
-cast-t15 c = search needs
+cast-t16 : tie.Need-cast-t16 Inv-loop μ-loop
+cast-t16 c = search needs
 
 returns-4 : tie.Need-returns-4 Inv-loop μ-loop
 returns-4 c =
@@ -118,9 +127,11 @@ read-digits-spec =
     mul-value
     wide-requires-2
     add-value
-    returns-3
     add-i
+    rest-requires
+    too-large-requires
+    returns-3
     loop-less
     loop-again
-    cast-t15
+    cast-t16
     returns-4)

@@ -1,11 +1,10 @@
 -- `regions::search::find` meets its contract. The invariant: a round halves what is left, and what is left decides. Assumes nothing.
 use Prim.Native.Nat.{ℕ, _-_, _<_}
 use mathlib.Core.Path.{_≡_, sym, _∙_, ap, subst}
-use mathlib.Core.Bool.{Bool}
+use mathlib.Core.Bool.{Bool, cond}
 use mathlib.Core.Logic.{⊎-elim}
 use borrow.Author.Needs.{needs}
 use native.Mathlib.Omega.{arith}
-use Rattle.access.specs.Patterns.{pick}
 use Rattle.regions.specs.declared.search.Found.the-variants.{At, Nothing}
 use Rattle.regions.specs.Search.{lookup}
 use Rattle.regions.proofs.Searches.{no-region}
@@ -96,22 +95,22 @@ covers-requires c κs = tt
 decided : (c : tie.After-covers Inv-loop μ-loop) →
     let a = c .before .before .before .before .before .before .before .before .args in
     lookup (a .bases .now) (a .sizes .now) (a .address) 0 (a .count)
-    ≡ pick (c .covers .result) (At (c .before .before .before .before .loop .first)) Nothing
+    ≡ cond (c .covers .result) (At (c .before .before .before .before .loop .first)) Nothing
 decided c =
     let l = c .before .before .before in
     let i = l .before .loop in
     decides (i .inv) (omega (arith, l .loop-test .left))
-    ∙ ap (λ (b : Bool). pick b (At (i .first)) Nothing) (sym (c .covers .ensures))
+    ∙ ap (λ (b : Bool). cond b (At (i .first)) Nothing) (sym (c .covers .ensures))
 
 returns-2 : tie.Need-returns-2 Inv-loop μ-loop
 returns-2 c =
     let i = c .before .before .before .before .before .loop in
-    sym (decided (c .before) ∙ ap (λ (b : Bool). pick b (At (i .first)) Nothing) (c .if4 .taken))
+    sym (decided (c .before) ∙ ap (λ (b : Bool). cond b (At (i .first)) Nothing) (c .if4 .taken))
 
 returns-3 : tie.Need-returns-3 Inv-loop μ-loop
 returns-3 c =
     let i = c .before .before .before .before .before .loop in
-    sym (decided (c .before) ∙ ap (λ (b : Bool). pick b (At (i .first)) Nothing) (c .if4 .left))
+    sym (decided (c .before) ∙ ap (λ (b : Bool). cond b (At (i .first)) Nothing) (c .if4 .left))
 
 pub find-spec : {M : Type 1} → statement M
 find-spec =

@@ -4,7 +4,7 @@ use native.Mathlib.Omega.{arith}
 use mathlib.Core.Path.{_≡_, sym, ap, _∙_}
 use mir.Facts.{toZ-ofZ}
 use Rattle.itron.specs.Limits.{maxDomains}
-use Rattle.access.specs.Patterns.{ordinalOf}
+use Rattle.access.specs.Domains.{ordinalOf}
 use Rattle.access.specs.Vectors.{uniform}
 use Rattle.access.proofs.Ordinals.{ordinal-le}
 use Rattle.access.proofs.Vectors.{private-none, private-user}

@@ -4,11 +4,11 @@ use native.Mathlib.Omega.{arith}
 use mathlib.Core.Path.{_≡_, sym, ap, _∙_}
 use Prim.Native.Nat.{_-_}
 use mir.Facts.{toZ-ofZ}
-use Rattle.access.specs.Patterns.{ordinalOf}
+use Rattle.access.specs.Domains.{ordinalOf}
 use Rattle.itron.specs.Limits.{maxQueues}
 use Rattle.model.specs.Queues.{room}
-use Rattle.tasks.specs.declared.check.Target.the-variants.{At}
-use Rattle.tasks.proofs.Targets.{out-of-range, missing, found}
+use Rattle.model.specs.declared.check.Target.the-variants.{At}
+use Rattle.model.proofs.Targets.{out-of-range, missing, found}
 use Rattle.dataqueue.specs.View.{queuesOf}
 use Rattle.dataqueue.proofs.Links.{count-seen}
 use Rattle.dataqueue.proofs.state.Queues.find.Statement.{statement}

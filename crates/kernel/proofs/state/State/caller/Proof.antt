@@ -2,9 +2,8 @@
 use mathlib.Core.Path.{sym, ap, _∙_}
 use borrow.Author.Tests.{not-true, not-false}
 use mir.Facts.{toZ-ofZ}
-use mathlib.Core.Bool.{Bool, _&&_}
-use Rattle.access.specs.Patterns.{pick}
-use Rattle.arrays.specs.Pad.{index}
+use mathlib.Core.Bool.{Bool, cond, _&&_}
+use Rattle.model.specs.Lists.{index}
 use Rattle.model.specs.State.{domainAt}
 use Rattle.model.specs.State.{no}
 use Rattle.model.specs.Rooms.{ready}
@@ -25,7 +24,7 @@ returns-2 c =
     let b = c .before .before .before .before in
     let a = b .args in
     let h = not-false (a .self .closed) (c .before .before .if1 .left) in
-    rw (toZ-ofZ (b .fits .number)) at (c .caller .ensures) ∙ ap (λ (d : Bool). pick (d && ready (viewOf (a .self)) (no (a .number))) (Caller.Ready (index (no (a .number))) (domainAt (viewOf (a .self)) (no (a .number)))) Caller.Nobody) (sym h)
+    rw (toZ-ofZ (b .fits .number)) at (c .caller .ensures) ∙ ap (λ (d : Bool). cond (d && ready (viewOf (a .self)) (no (a .number))) (Caller.Ready (index (no (a .number))) (domainAt (viewOf (a .self)) (no (a .number)))) Caller.Nobody) (sym h)
 
 pub caller-spec : {M : Type 1} → statement M
 caller-spec = tie.close (tie.spec returns caller-requires returns-2)

@@ -1,16 +1,15 @@
 -- `State::check` meets its contract. Assumes nothing.
 use borrow.Author.Needs.{needs}
 use mathlib.Core.Path.{_≡_, sym, ap, _∙_}
-use mathlib.Core.Bool.{Bool}
+use mathlib.Core.Bool.{Bool, cond}
 use mir.Syntax.{w32}
 use mir.Val.{toZ, ofZ}
 use mir.Facts.{toZ-ofZ}
-use Rattle.access.specs.Patterns.{pick, admitted}
+use Rattle.access.specs.Patterns.{admitted}
 use Rattle.access.specs.Vectors.{patternOf}
 use Rattle.itron.specs.Codes.{eOacv, numberOf}
 use Rattle.model.specs.State.{no}
-use Rattle.tasks.specs.declared.check.Check.the-variants.{Refused, Admitted}
-use Rattle.tasks.specs.declared.check.Target.{Target}
+use Rattle.model.specs.declared.check.Check.the-variants.{Refused, Admitted}
 use Rattle.tasks.specs.declared.wait.Caller.{Caller}
 use Rattle.tasks.specs.declared.wait.Caller.the-variants as Caller
 use Rattle.kernel.specs.View.{viewOf}
@@ -91,14 +90,14 @@ found :
     let t = c .before .before .before in
     let q = t .before .before .before in
     let a = q .before .before .before .args in
-    pick b (Admitted (q .task .given .0 .0) (t .target .given .0 .0)) (Refused (numberOf eOacv)) ≡ checkedBy (callerIn (viewOf (a .self)) (no (a .caller))) (a .operation) (a .target)
+    cond b (Admitted (q .task .given .0 .0) (t .target .given .0 .0)) (Refused (numberOf eOacv)) ≡ checkedBy (callerIn (viewOf (a .self)) (no (a .caller))) (a .operation) (a .target)
 found c b h =
     let t = c .before .before .before in
     let q = t .before .before .before in
     let a = q .before .before .before .args in
     let w = sym (who q) in
     let x = sym (t .target .given .1) in
-    ap (λ (k : Bool). pick k (Admitted (q .task .given .0 .0) (t .target .given .0 .0)) (Refused (numberOf eOacv))) (sym h ∙ admission c) ∙ (λ i. checkedBy (w i) (a .operation) (x i))
+    ap (λ (k : Bool). cond k (Admitted (q .task .given .0 .0) (t .target .given .0 .0)) (Refused (numberOf eOacv))) (sym h ∙ admission c) ∙ (λ i. checkedBy (w i) (a .operation) (x i))
 
 returns-4 : tie.Need-returns-4
 returns-4 c = found (c .before) _ (c .if1 .taken)

@@ -1,6 +1,6 @@
 -- `State::check_queue` meets its contract. Assumes nothing.
 use borrow.Author.Needs.{needs}
-use mathlib.Core.Path.{_≡_, sym, ap, _∙_}
+use mathlib.Core.Path.{_≡_, _∙_}
 use mathlib.Core.Bool.{not}
 use lib.Dec.{ltb}
 use lib.ListN.{length}

@@ -5,7 +5,7 @@ use mathlib.Core.Bool.{_&&_}
 use lib.Dec.{eqb}
 use mir.Syntax.{w32}
 use mir.Val.{toZ, ofZ}
-use Rattle.access.specs.Patterns.{sameDomain}
+use Rattle.access.specs.Domains.{sameDomain}
 use Rattle.regions.proofs.state.RegionInfo.equals.Statement.{statement}
 use Rattle.regions.proofs.state.RegionInfo.equals.Tie as tie
 

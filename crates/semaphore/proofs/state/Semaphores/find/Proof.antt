@@ -4,12 +4,12 @@ use native.Mathlib.Omega.{arith}
 use mathlib.Core.Path.{_≡_, sym, ap, _∙_}
 use Prim.Native.Nat.{_-_}
 use mir.Facts.{toZ-ofZ}
-use Rattle.access.specs.Patterns.{ordinalOf}
+use Rattle.access.specs.Domains.{ordinalOf}
 use Rattle.itron.specs.Limits.{maxSemaphores}
 use Rattle.model.specs.Semaphores.{room}
 use Rattle.model.specs.declared.sem.Semaphore.{Semaphore}
-use Rattle.tasks.specs.declared.check.Target.the-variants.{At}
-use Rattle.tasks.proofs.Targets.{out-of-range, missing, found}
+use Rattle.model.specs.declared.check.Target.the-variants.{At}
+use Rattle.model.proofs.Targets.{out-of-range, missing, found}
 use Rattle.semaphore.specs.View.{semsOf}
 use Rattle.semaphore.proofs.Back.{count-seen}
 use Rattle.semaphore.proofs.state.Semaphores.find.Statement.{statement}

@@ -7,7 +7,7 @@ use mir.Syntax.{w32}
 use mir.Val.{toZ, ofZ}
 use mir.Facts.{toZ-ofZ}
 use lib.ListN.{getD}
-use Rattle.access.specs.Patterns.{ordinalOf}
+use Rattle.access.specs.Domains.{ordinalOf}
 use Rattle.access.proofs.Ordinals.{ordinal-le}
 use Rattle.tasks.specs.declared.wait.Caller.the-variants as Caller
 use Rattle.tasks.specs.View.{noTask}

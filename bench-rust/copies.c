@@ -1,0 +1,75 @@
+// How many bytes a pair of calls hands to memcpy, counted by a memcpy that takes the C library's place. In the repository's root:
+//   cc -O2 -fno-builtin bench-rust/copies.c target/staticlib/libtiming.a target/staticlib/libhost.a -o target/copies
+#include <stdint.h>
+#include <stdio.h>
+
+uint32_t timing_signal_poll(uint32_t pairs, int32_t task, int32_t id);
+uint32_t timing_wait_signal(uint32_t pairs, int32_t waiter, int32_t task, int32_t id);
+uint32_t timing_refer_set_semaphore(uint32_t pairs, int32_t task, int32_t id);
+uint32_t timing_send_receive(uint32_t pairs, int32_t task, int32_t id);
+uint32_t timing_wait_send(uint32_t pairs, int32_t waiter, int32_t task, int32_t id);
+uint32_t timing_refer_set_queue(uint32_t pairs, int32_t task, int32_t id);
+uint32_t timing_verdict(uint32_t rounds, const int32_t *domains, size_t domains_len, const uint32_t *bases,
+                        size_t bases_len, uint32_t size, uint32_t wishes);
+size_t host_run(const uint32_t *calls, size_t calls_len, uint32_t *answers, size_t answers_len);
+
+static uint64_t bytes, copies;
+
+void *memcpy(void *restrict to, const void *restrict from, size_t size) {
+    for (size_t i = 0; i < size; i++) ((volatile char *)to)[i] = ((const char *)from)[i];
+    bytes += size;
+    copies++;
+    return to;
+}
+
+enum { PAIRS = 100, REGIONS = 64, REGION_SIZE = 4096, READ = 2 };
+
+static void verdicts(uint32_t rounds, uint32_t size) {
+    int32_t domains[REGIONS];
+    uint32_t bases[REGIONS];
+    for (uint32_t k = 0; k < REGIONS; k++) domains[k] = 1, bases[k] = k * REGION_SIZE;
+    timing_verdict(rounds, domains, REGIONS, bases, REGIONS, size, READ);
+}
+
+static void signal_poll(uint32_t pairs) { timing_signal_poll(pairs, 1, 1); }
+static void wait_signal(uint32_t pairs) { timing_wait_signal(pairs, 4, 1, 1); }
+static void refer_set_semaphore(uint32_t pairs) { timing_refer_set_semaphore(pairs, 3, 1); }
+static void send_receive(uint32_t pairs) { timing_send_receive(pairs, 1, 1); }
+static void wait_send(uint32_t pairs) { timing_wait_send(pairs, 4, 1, 1); }
+static void refer_set_queue(uint32_t pairs) { timing_refer_set_queue(pairs, 3, 1); }
+static void inside(uint32_t rounds) { verdicts(rounds, 16); }
+static void into_next(uint32_t rounds) { verdicts(rounds, REGION_SIZE + 16); }
+
+// Task 4 waits to receive from queue 1 (function 9), and task 1 sends to it (function 6).
+static void listed(uint32_t pairs) {
+    static uint32_t calls[16 * (PAIRS + 1)], answers[22 * (PAIRS + 1)];
+    for (uint32_t k = 0; k < pairs; k++) {
+        uint32_t *call = calls + 16 * k;
+        call[0] = 9, call[1] = 4, call[2] = 1, call[8] = 6, call[9] = 1, call[10] = 1;
+    }
+    host_run(calls, 16 * pairs, answers, 22 * pairs);
+}
+
+// What the table costs is left out: one round less.
+static void count(const char *name, void (*work)(uint32_t rounds), double in_a_round) {
+    bytes = copies = 0;
+    work(1);
+    uint64_t first_bytes = bytes, first_copies = copies;
+    bytes = copies = 0;
+    work(PAIRS + 1);
+    double rounds = PAIRS * in_a_round;
+    printf("| %s | %.0f | %.0f |\n", name, (bytes - first_bytes) / rounds, (copies - first_copies) / rounds);
+}
+
+int main(void) {
+    printf("| Pair of calls, or verdict | bytes | copies |\n|---|---|---|\n");
+    count("signal, poll", signal_poll, 1);
+    count("wait, signal", wait_signal, 1);
+    count("refer, set-vector: semaphore", refer_set_semaphore, 1);
+    count("send, receive", send_receive, 1);
+    count("wait to receive, send", wait_send, 1);
+    count("refer, set-vector: queue", refer_set_queue, 1);
+    count("verdict, in its region", inside, REGIONS);
+    count("verdict, into the next", into_next, REGIONS);
+    count("list: wait to receive, send", listed, 1);
+}

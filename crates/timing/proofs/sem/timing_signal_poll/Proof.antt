@@ -1,0 +1,59 @@
+-- `sem::timing_signal_poll` is safe and ends: the state stays valid. Assumes nothing.
+use Prim.Native.Nat.{_≤_, _-_}
+use borrow.Author.Needs.{needs}
+use Rattle.kernel.specs.Valid.{Valid}
+use Rattle.timing.proofs.sem.timing_signal_poll.Statement.{statement}
+use Rattle.timing.proofs.sem.timing_signal_poll.Tie as tie
+
+abbrev Inv-loop : tie.InvT-loop
+Inv-loop pairs task id s₀ count₀ i₀ s count i = (i ≤ pairs) × Valid s
+
+abbrev μ-loop : tie.MeasureT-loop
+μ-loop pairs task id s₀ count₀ i₀ s count i = pairs - i
+
+closed-requires : tie.Need-closed-requires Inv-loop μ-loop
+closed-requires c κs = search needs
+
+loop-holds : tie.Need-loop-holds Inv-loop μ-loop
+loop-holds c = search needs
+
+sig-sem-requires : tie.Need-sig-sem-requires Inv-loop μ-loop
+sig-sem-requires c κs = search needs
+
+pol-sem-requires : tie.Need-pol-sem-requires Inv-loop μ-loop
+pol-sem-requires c κs = search needs
+
+good-requires : tie.Need-good-requires Inv-loop μ-loop
+good-requires c κs = search needs
+
+good-requires-2 : tie.Need-good-requires-2 Inv-loop μ-loop
+good-requires-2 c κs = search needs
+
+add-i : tie.Need-add-i Inv-loop μ-loop
+add-i c = search needs
+
+loop-less : tie.Need-loop-less Inv-loop μ-loop
+loop-less c = search needs
+
+loop-again : tie.Need-loop-again Inv-loop μ-loop
+loop-again c = search needs
+
+returns : tie.Need-returns Inv-loop μ-loop
+returns c = search needs
+
+pub timing-signal-poll-spec : {M : Type 1} → statement M
+timing-signal-poll-spec =
+    tie.close
+    (tie.spec
+    Inv-loop
+    μ-loop
+    closed-requires
+    loop-holds
+    sig-sem-requires
+    pol-sem-requires
+    good-requires
+    good-requires-2
+    add-i
+    loop-less
+    loop-again
+    returns)
