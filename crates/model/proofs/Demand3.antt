@@ -7,10 +7,12 @@ use Rattle.model.specs.Demand3.{Demand3, JustClosed}
 use Rattle.model.proofs.Steps.{waiters-are}
 use Rattle.model.proofs.SemaphoreClaims.{counted}
 use Rattle.model.proofs.QueueClaims.{carried}
+use Rattle.model.proofs.Releases.{releases}
 
 pub demand3 : (s₀ : State) → JustClosed s₀ → (cs : List Call) → Demand3 s₀ (history s₀ cs) (after s₀ cs)
 demand3 s₀ j cs = record {
   queues = carried s₀ j cs;
   semaphores = counted s₀ cs;
   waitersAre = waiters-are s₀ (j .noWaits) cs;
+  releases = releases s₀ (j .noWaits) cs;
 }

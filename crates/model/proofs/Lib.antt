@@ -14,6 +14,7 @@ pub mod Cover
 pub mod Steps
 pub mod SemaphoreClaims
 pub mod QueueClaims
+pub mod Releases
 pub mod Demand3
 pub mod Turns
 pub mod Sound

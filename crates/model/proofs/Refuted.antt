@@ -1,24 +1,31 @@
 -- What demand 3 shuts out: for each such thing a history of answers that it refutes. Closed computations; assumes nothing.
-use mathlib.Core.Path.{_≡_, ap}
-use mathlib.Core.Bool.{true}
-use mathlib.Core.List.{List, [], _∷_, map}
-use Prim.Native.Nat.{ℕ}
+use mathlib.Core.Path.{_≡_, refl, ap}
+use mathlib.Core.Logic.{inl}
+use mathlib.Core.Bool.{Bool, true, false}
+use mathlib.Core.List.{List, [], _∷_, _++_, map}
+use mathlib.Core.Option.{some}
+use Prim.Native.Nat.{ℕ, suc}
 use native.Mathlib.Omega.{arith}
+use lib.Dec.{eqb}
 use lib.IntN.{pos, negsuc}
 use lib.ListN.{length, getD}
 use Rattle.itron.specs.Limits.{minUnit}
 use Rattle.access.specs.Patterns.{admitted}
 use Rattle.itron.specs.Codes.{Code, ok, waiting, error, eOacv}
-use Rattle.model.specs.State.{Vector, sending, Waiter, State, stateWith, setWaits, setSems, setQueues, waiter}
+use Rattle.model.specs.Lists.{words}
+use Rattle.model.specs.State.{Vector, onSem, receiving, sending, Place, Waiter, State, stateWith, setWaits, setSems, setQueues, place, sideNumber, waiter}
 use Rattle.model.specs.Answers.{Released, say}
 use Rattle.model.specs.Waits.{polling, forever}
 use Rattle.model.specs.Acts.{own, setVector}
-use Rattle.model.specs.Semaphores.{signal, acquire}
-use Rattle.model.specs.Queues.{send, receive}
+use Rattle.model.specs.Semaphores.{SemaphoreCall, signal, acquire}
+use Rattle.model.specs.Queues.{QueueCall, send, receive}
 use Rattle.model.specs.Calls.{Op, onSemaphore, onQueue, call}
-use Rattle.model.specs.History.{Event, History}
-use Rattle.model.specs.QueueClaims.{Sender}
+use Rattle.model.specs.History.{Event, History, Made, askedIf}
+use Rattle.model.specs.SemaphoreClaims.{Counted}
+use Rattle.model.specs.QueueClaims.{sent, handed, Sender}
+use Rattle.model.specs.Releases.{WaitsAt}
 use Rattle.model.specs.Demand3.{Demand3}
+use Rattle.model.proofs.Lists.{no-both, eqb-same}
 
 -- ---- tasks 1 and 3 are of domain 1, task 2 of domain 2; semaphore 1 and queue 1 are for domain 1 only
 abbrev for : ℕ → Vector
@@ -93,6 +100,20 @@ pub denied-before : Claims (sends 1 701 ∷ sends 2 700 ∷ []) (700 ∷ 701 ∷
 unfolding admitted
 denied-before d = d .queues 1 .sendersAllowed .1 .0 .0
 
+-- a send that answers "waiting" is judged as one that answers E_OK
+pub denied-waiting : Demand3 start (did 2 (onQueue (pos 1) (own (send forever 700))) waiting 0 [] ∷ []) (table (waiter 2 sending 1 700 ∷ []) 0 []) → ⊥
+unfolding admitted
+denied-waiting d = d .queues 1 .sendersAllowed .0 .0
+
+-- who is admitted only after its call was not admitted when it called: a sender, and a receiver that waited until then
+pub sender-admitted-later : Claims (did 1 (onQueue (pos 1) (setVector (for 3))) ok 0 [] ∷ sends 2 700 ∷ []) (700 ∷ []) → ⊥
+unfolding admitted
+sender-admitted-later d = d .queues 1 .sendersAllowed .1 .0 .0
+
+pub receiver-admitted-later : Claims (did 1 (onQueue (pos 1) (own (send polling 700))) ok 0 (released 2 700) ∷ did 1 (onQueue (pos 1) (setVector (for 3))) ok 0 [] ∷ did 2 (onQueue (pos 1) (own (receive forever))) waiting 0 [] ∷ []) [] → ⊥
+unfolding admitted
+receiver-admitted-later d = d .queues 1 .takersAllowed .0 .0 .1
+
 -- to a task that never called, and to one that waits elsewhere
 pub never-called : Claims (did 1 (onQueue (pos 1) (own (send polling 700))) ok 0 (released 3 700) ∷ []) [] → ⊥
 never-called d = d .queues 1 .takersAllowed .0 .0
@@ -117,6 +138,71 @@ sender-other-word d = let e : _≡_ {A = ℕ} 701 700 = ap (λ (l : List Sender)
 pub still-there : Demand3 start (did 3 (onQueue (pos 1) (own (receive polling))) ok 700 (released 1 0) ∷ waits ∷ []) (table (waiter 1 sending 1 700 ∷ []) 0 []) → ⊥
 still-there d = let e : _≡_ {A = ℕ} 1 0 = ap length (d .queues 1 .sendersAre) in omega arith
 
+-- two of them: in call order, and none missing
+abbrev two-wait : History
+two-wait = did 3 (onQueue (pos 1) (own (send forever 701))) waiting 0 [] ∷ waits ∷ []
+
+pub senders-swapped : Demand3 start two-wait (table (waiter 3 sending 1 701 ∷ waiter 1 sending 1 700 ∷ []) 0 []) → ⊥
+senders-swapped d = let e : _≡_ {A = ℕ} 3 1 = ap (λ (l : List Sender). getD (map (λ (x : Sender). x .task) l) 0 0) (d .queues 1 .sendersAre) in omega arith
+
+pub words-swapped : Demand3 start two-wait (table (waiter 1 sending 1 701 ∷ waiter 3 sending 1 700 ∷ []) 0 []) → ⊥
+words-swapped d = let e : _≡_ {A = ℕ} 701 700 = ap (λ (l : List ℕ). getD l 0 0) (d .queues 1 .conserved) in omega arith
+
+pub second-sender-lost : Demand3 start two-wait (table (waiter 1 sending 1 700 ∷ []) 0 []) → ⊥
+second-sender-lost d = let e : _≡_ {A = ℕ} 1 2 = ap length (d .queues 1 .conserved) in omega arith
+
+-- ---- all who wait, at a semaphore and to receive too: forgotten, at another place, in another order, with nobody having called
+abbrev acquires : ℕ → Event
+acquires t = did t (onSemaphore (pos 1) (own (acquire forever))) waiting 0 []
+
+pub waiter-forgotten : Claims (acquires 3 ∷ []) [] → ⊥
+waiter-forgotten d = let e : _≡_ {A = ℕ} 0 1 = ap length (d .waitersAre) in omega arith
+
+pub receiver-forgotten : Claims (did 3 (onQueue (pos 1) (own (receive forever))) waiting 0 [] ∷ []) [] → ⊥
+receiver-forgotten d = let e : _≡_ {A = ℕ} 0 1 = ap length (d .waitersAre) in omega arith
+
+pub waits-at-another : Demand3 start (acquires 3 ∷ []) (table (waiter 3 onSem 2 0 ∷ []) 0 []) → ⊥
+waits-at-another d = let e : _≡_ {A = ℕ} 2 1 = ap (λ (l : List Waiter). getD (map (λ (x : Waiter). x .place .number) l) 0 0) (d .waitersAre) in omega arith
+
+pub waiters-swapped : Demand3 start (acquires 1 ∷ acquires 3 ∷ []) (table (waiter 1 onSem 1 0 ∷ waiter 3 onSem 1 0 ∷ []) 0 []) → ⊥
+waiters-swapped d = let e : _≡_ {A = ℕ} 1 3 = ap (λ (l : List Waiter). getD (map (λ (x : Waiter). x .task) l) 0 0) (d .waitersAre) in omega arith
+
+pub waits-uncalled : Demand3 start [] (table (waiter 3 onSem 1 0 ∷ []) 0 []) → ⊥
+waits-uncalled d = let e : _≡_ {A = ℕ} 1 0 = ap length (d .waitersAre) in omega arith
+
+-- ---- a release belongs to a wait
+-- one waiting receive, released by two sends
+pub released-twice : Claims (did 1 (onQueue (pos 1) (own (send polling 701))) ok 0 (released 3 701) ∷ did 1 (onQueue (pos 1) (own (send polling 700))) ok 0 (released 3 700) ∷ did 3 (onQueue (pos 1) (own (receive forever))) waiting 0 [] ∷ []) [] → ⊥
+released-twice d = d .releases .0 .0 .waited
+
+-- a signal that releases a task which never waited
+pub released-unasked : Claims (did 1 (onSemaphore (pos 1) (own signal)) ok 0 (released 3 0) ∷ []) [] → ⊥
+released-unasked d = d .releases .0 .0 .waited
+
+-- one that waits at another side of an object, and one that waits at another object
+pub released-from-another-side : Claims (did 1 (onSemaphore (pos 1) (own signal)) ok 0 (released 3 0) ∷ did 3 (onQueue (pos 1) (own (receive forever))) waiting 0 [] ∷ []) [] → ⊥
+released-from-another-side d = go (d .releases .0 .0 .waited)
+  where
+    go : WaitsAt (some (place onSem 1)) 3 (waiter 3 receiving 1 0 ∷ []) → ⊥
+    go (inl x) = let e : _≡_ {A = ℕ} 1 0 = ap (λ (p : Place). sideNumber (p .side)) (x .1) in omega arith
+
+pub released-from-another : Claims (did 1 (onSemaphore (pos 2) (own signal)) ok 0 (released 3 0) ∷ acquires 3 ∷ []) [] → ⊥
+released-from-another d = go (d .releases .0 .0 .waited)
+  where
+    go : WaitsAt (some (place onSem 2)) 3 (waiter 3 onSem 1 0 ∷ []) → ⊥
+    go (inl x) = let e : _≡_ {A = ℕ} 1 2 = ap (λ (p : Place). p .number) (x .1) in omega arith
+
+-- by a call that serves nobody
+pub released-by-poll : Claims (did 1 (onSemaphore (pos 1) (own (acquire polling))) ok 0 (released 3 0) ∷ acquires 3 ∷ []) [] → ⊥
+released-by-poll d = d .releases .0 .0 .waited
+
+pub released-by-set-vector : Claims (did 1 (onSemaphore (pos 1) (setVector (for 1))) ok 0 (released 3 0) ∷ acquires 3 ∷ []) [] → ⊥
+released-by-set-vector d = d .releases .0 .0 .waited
+
+-- and it goes on waiting
+pub released-and-waits : Demand3 start (did 1 (onQueue (pos 1) (own (receive forever))) waiting 0 (released 1 0) ∷ waits ∷ []) (table (waiter 1 receiving 1 0 ∷ []) 0 []) → ⊥
+released-and-waits d = d .releases .0 .0 .ended .0 refl
+
 -- ---- the count: a grant for nothing, and a signal that is lost
 pub granted-for-nothing : Claims (did 1 (onSemaphore (pos 1) (own (acquire polling))) ok 0 [] ∷ []) [] → ⊥
 granted-for-nothing d = let e : _≡_ {A = ℕ} 1 0 = d .semaphores 1 in omega arith
@@ -127,3 +213,69 @@ signal-lost d = let e : _≡_ {A = ℕ} 0 1 = d .semaphores 1 in omega arith
 -- raising the count and also releasing a waiter
 pub counted-twice : Demand3 start (did 1 (onSemaphore (pos 1) (own signal)) ok 0 (released 3 0) ∷ did 3 (onSemaphore (pos 1) (own (acquire forever))) waiting 0 [] ∷ []) (table [] 1 []) → ⊥
 counted-twice d = let e : _≡_ {A = ℕ} 2 1 = d .semaphores 1 in omega arith
+
+-- ---- whatever the number of the queue or the semaphore: a word lost, and a grant for nothing, where there is nothing at the start
+abbrev empty : State
+empty = stateWith (record { closed = true; count = 2; unit = minUnit; domains = pos 1 ∷ []; regions = [] })
+
+pub lost-anywhere : (q : ℕ) → Demand3 empty (did 1 (onQueue (pos (suc q)) (own (send polling 700))) ok 0 [] ∷ []) empty → ⊥
+lost-anywhere q d = go (eqb (suc q) (suc q)) (eqb-same (suc q)) (d .queues (suc q) .conserved)
+  where
+    seen : Bool → List (Made QueueCall)
+    seen b = record { caller = 1; asked = askedIf b (own (send polling 700)); answer = say ok 0 [] } ∷ []
+
+    go : (b : Bool) → b ≡ true → words handed (seen b) ++ ([] ++ []) ≡ words sent (seen b) → ⊥
+    go true h c = let e : _≡_ {A = ℕ} 0 1 = ap length c in omega arith
+    go false h c = no-both h refl
+
+pub granted-anywhere : (i : ℕ) → Demand3 empty (did 1 (onSemaphore (pos (suc i)) (own (acquire polling))) ok 0 [] ∷ []) empty → ⊥
+granted-anywhere i d = go (eqb (suc i) (suc i)) (eqb-same (suc i)) (d .semaphores (suc i))
+  where
+    seen : Bool → List (Made SemaphoreCall)
+    seen b = record { caller = 1; asked = askedIf b (own (acquire polling)); answer = say ok 0 [] } ∷ []
+
+    go : (b : Bool) → b ≡ true → Counted 0 (seen b) 0 → ⊥
+    go true h c = let e : _≡_ {A = ℕ} 1 0 = c in omega arith
+    go false h c = no-both h refl
+
+-- ---- four different patterns: task t is of domain t; queue 2 admits domain 1 to send, 2 to receive, 3 to set its vector and 4 to refer to it
+abbrev four : List Waiter → List ℕ → State
+four ws b =
+    setQueues (setWaits (stateWith (record { closed = true; count = 4; unit = minUnit; domains = pos 1 ∷ pos 2 ∷ pos 3 ∷ pos 4 ∷ []; regions = [] })) ws)
+    (record { domain = negsuc 0; attribute = 0; capacity = 2; buffer = []; vector = for 0 }
+    ∷ record { domain = negsuc 0; attribute = 0; capacity = 2; buffer = b; vector = record { normal1 = 1; normal2 = 2; management = 4; reference = 8 } }
+    ∷ [])
+
+-- a send by task t, and one that waits; a receive by task t of a word that task 1 sent, and one that waited for it
+abbrev Sends : ℕ → Type 0
+Sends t = Demand3 (four [] []) (did t (onQueue (pos 2) (own (send polling 700))) ok 0 [] ∷ []) (four [] (700 ∷ []))
+
+abbrev WaitsToSend : ℕ → Type 0
+WaitsToSend t = Demand3 (four [] []) (did t (onQueue (pos 2) (own (send forever 700))) waiting 0 [] ∷ []) (four (waiter t sending 2 700 ∷ []) [])
+
+abbrev Receives : ℕ → Type 0
+Receives t = Demand3 (four [] []) (did t (onQueue (pos 2) (own (receive polling))) ok 700 [] ∷ did 1 (onQueue (pos 2) (own (send polling 700))) ok 0 [] ∷ []) (four [] [])
+
+abbrev WaitsToReceive : ℕ → Type 0
+WaitsToReceive t = Demand3 (four [] []) (did 1 (onQueue (pos 2) (own (send polling 700))) ok 0 (released t 700) ∷ did t (onQueue (pos 2) (own (receive forever))) waiting 0 [] ∷ []) (four [] [])
+
+-- none of three tasks may
+abbrev Shut : (ℕ → Type 0) → ℕ → ℕ → ℕ → Type 0
+Shut C a b c = (C a → ⊥) × (C b → ⊥) × (C c → ⊥)
+
+-- sends are normal operation 1 and receives are normal operation 2: no other pattern admits to them
+pub send-by-another : Shut Sends 2 3 4
+unfolding admitted
+send-by-another = ((λ d. d .queues 2 .sendersAllowed .0 .0), (λ d. d .queues 2 .sendersAllowed .0 .0), (λ d. d .queues 2 .sendersAllowed .0 .0))
+
+pub wait-to-send-by-another : Shut WaitsToSend 2 3 4
+unfolding admitted
+wait-to-send-by-another = ((λ d. d .queues 2 .sendersAllowed .0 .0), (λ d. d .queues 2 .sendersAllowed .0 .0), (λ d. d .queues 2 .sendersAllowed .0 .0))
+
+pub receive-by-another : Shut Receives 1 3 4
+unfolding admitted
+receive-by-another = ((λ d. d .queues 2 .takersAllowed .0), (λ d. d .queues 2 .takersAllowed .0), (λ d. d .queues 2 .takersAllowed .0))
+
+pub wait-to-receive-by-another : Shut WaitsToReceive 1 3 4
+unfolding admitted
+wait-to-receive-by-another = ((λ d. d .queues 2 .takersAllowed .0 .0 .1), (λ d. d .queues 2 .takersAllowed .0 .0 .1), (λ d. d .queues 2 .takersAllowed .0 .0 .1))

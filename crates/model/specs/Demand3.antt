@@ -2,11 +2,13 @@
 use mathlib.Core.Path.{_≡_}
 use mathlib.Core.List.{[]}
 use Prim.Native.Nat.{ℕ}
+use Rattle.model.specs.Lists.{Each}
 use Rattle.model.specs.State.{State, semAt, queueAt, domainAt}
 use Rattle.model.specs.Waits.{senders}
 use Rattle.model.specs.History.{History, pending}
 use Rattle.model.specs.SemaphoreClaims.{bySemaphore, Counted}
 use Rattle.model.specs.QueueClaims.{byQueue, Carried}
+use Rattle.model.specs.Releases.{ReleasesWaiters}
 
 -- ---- demand 3, of a history h (the newest call first) that began in the state s₀ and ended in s
 pub record Demand3 (s₀ : State) (h : History) (s : State) : Type 0 where
@@ -17,6 +19,8 @@ pub record Demand3 (s₀ : State) (h : History) (s : State) : Type 0 where
   pub semaphores : (i : ℕ) → Counted (semAt s₀ i .count) (bySemaphore i h) (semAt s i .count)
   -- all who wait are exactly those whose call answered "waiting" and whose release no later answer shows, each where that call put it, in call order
   pub waitersAre : s .waits ≡ pending h
+  -- every task that an answer shows released was waiting then, at the place that the call serves, and waits no longer
+  pub releases : Each ReleasesWaiters h
 
 -- what demand 3 needs of a table just closed: nobody waits and nothing is buffered (an open table, which refuses every call, has it too)
 pub record JustClosed (s : State) : Type 0 where

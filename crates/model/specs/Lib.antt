@@ -16,5 +16,6 @@ pub mod Conditions
 pub mod History
 pub mod SemaphoreClaims
 pub mod QueueClaims
+pub mod Releases
 pub mod Demand3
 pub mod Turns

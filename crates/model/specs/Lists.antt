@@ -1,5 +1,6 @@
 -- Lists whose elements are numbered from 1, and choosing from lists. Definitions only.
 use mathlib.Core.Bool.{Bool, true, false, _||_}
+use mathlib.Core.Logic.{_⊎_}
 use mathlib.Core.List.{List, [], _∷_, _++_, map}
 use Prim.Native.Nat.{ℕ, zero, suc, _+_}
 use lib.ListN.{getD, set}
@@ -49,6 +50,11 @@ module _ {A : Type 0} where
   abbrev pub All : (A → Type 0) → List A → Type 0
   All P [] = Unit
   All P (x ∷ l) = P x × All P l
+
+  -- a claim about some element
+  abbrev pub Some : (A → Type 0) → List A → Type 0
+  Some P [] = ⊥
+  Some P (x ∷ l) = P x ⊎ Some P l
 
   -- ---- of a list whose newest element stands first: the words of all, the total, and a claim about every element and what was before it
   abbrev pub words : (A → List ℕ) → List A → List ℕ

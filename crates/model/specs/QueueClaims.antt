@@ -2,13 +2,13 @@
 use mathlib.Core.Path.{_≡_}
 use mathlib.Core.Bool.{Bool, true, false, cond, not, _&&_}
 use mathlib.Core.List.{List, [], _∷_, _++_, map}
-use mathlib.Core.Option.{Option, none}
+use mathlib.Core.Option.{Option, none, some}
 use Prim.Native.Nat.{ℕ}
 use lib.Dec.{eqb, T}
 use lib.IntN.{ℤ}
 use Rattle.access.specs.Patterns.{admitted}
 use Rattle.model.specs.Lists.{All, keep, words, Each}
-use Rattle.model.specs.State.{Vector, Waiter, no}
+use Rattle.model.specs.State.{Vector, Side, receiving, sending, Waiter, no}
 use Rattle.model.specs.Answers.{Released, Answer, whenOk, whenWaiting, whenAccepted}
 use Rattle.model.specs.Acts.{Act}
 use Rattle.model.specs.Queues.{QueueCall, send, receive}
@@ -71,6 +71,11 @@ senderOf e = record { task = e .task; word = e .word }
 
 abbrev pub wordsIn : List Waiter → List ℕ
 wordsIn l = map (λ (e : Waiter). e .word) l
+
+-- whom a call serves: a send who waits to receive, a receive who waits to send
+abbrev pub servedIn : QueueCall → Option Side
+servedIn (send p w) = some receiving
+servedIn (receive p) = some sending
 
 -- a call of task t that answered "waiting"
 abbrev pub began : ℕ → Made QueueCall → Bool

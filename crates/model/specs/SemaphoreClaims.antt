@@ -1,12 +1,12 @@
 -- What is claimed of the calls on one semaphore: its part of demand 3. Definitions only.
 use mathlib.Core.Path.{_≡_}
 use mathlib.Core.List.{List, map}
-use mathlib.Core.Option.{Option, none}
+use mathlib.Core.Option.{Option, none, some}
 use Prim.Native.Nat.{ℕ, _+_}
 use lib.Dec.{eqb}
 use lib.ListN.{length}
 use Rattle.model.specs.Lists.{total}
-use Rattle.model.specs.State.{no}
+use Rattle.model.specs.State.{Side, onSem, no}
 use Rattle.model.specs.Answers.{Released, whenOk}
 use Rattle.model.specs.Acts.{Act}
 use Rattle.model.specs.Semaphores.{SemaphoreCall, signal, acquire}
@@ -37,6 +37,11 @@ grantIn rs (acquire p) = 1
 
 abbrev pub grants : Made SemaphoreCall → ℕ
 grants m = whenOk 0 (ofAsked 0 (grantIn (m .answer .released)) (m .asked)) (m .answer .code)
+
+-- whom a call serves: a signal who waits for the semaphore
+abbrev pub servedIn : SemaphoreCall → Option Side
+servedIn signal = some onSem
+servedIn (acquire p) = none
 
 -- ---- demand 3: count + grants = start + accepted signals
 abbrev pub Counted : (start : ℕ) → List (Made SemaphoreCall) → (count : ℕ) → Type 0
