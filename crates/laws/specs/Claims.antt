@@ -2,6 +2,7 @@
 use Prim.Native.Nat.{_≤_}
 use mathlib.Core.Path.{_≡_}
 use mathlib.Core.List.{List, _∷_, _++_, map}
+use lib.IntN.{pos, negℤ}
 use lib.ListN.{length, drop}
 use Rattle.model.specs.State.{Place, Waiter}
 use Rattle.model.specs.Waits.{waitersAt}
@@ -10,11 +11,13 @@ use Rattle.model.specs.Lists.{total}
 use Rattle.model.specs.History.{event, after, history}
 use Rattle.model.specs.Demand3.{Demand3}
 use Rattle.model.specs.Turns.{serves}
+use Rattle.model.specs.Denials.{DeniedSince}
+use Rattle.model.specs.declared.Outcome.the-variants as Outcome
 use Rattle.kernel.specs.declared.state.State.{State}
 use Rattle.kernel.specs.declared.state.Answer.{Answer}
 use Rattle.kernel.specs.View.{viewOf}
 use Rattle.kernel.specs.Promises.{Does}
-use Rattle.laws.specs.Runs.{Said, saidIn, Ran}
+use Rattle.laws.specs.Runs.{Built, taken, Said, saidIn, Ran}
 
 -- demand 3 of a run from s₀ by the calls cs to s with the answers l
 pub record Whole (s₀ s : State) (cs : List Call) (l : List Said) : Type 0 where
@@ -33,3 +36,10 @@ pub record TakesTurns (s₁ : State) (p : Place) (e : Waiter) (ahead : List Wait
   -- the (k+1)th releases it
   pub served : (cs : List Call) (s : State) (l : List Said) → Ran s₁ cs s l → total (serves p) (history (viewOf s₁) cs) ≡ length ahead
       → (c : Call) (r : Answer) → Does s c r → serves p (event (viewOf s) c) ≡ 1 → r .released .task ≡ e .task
+
+-- "E_OACV exactly when denied": of a call c in the state s, after the entries that the table b took and the calls cs from the closed table s₀ on, answered r
+pub record DeniesExactly {t : State} (b : Built t) (s₀ s : State) (cs : List Call) (c : Call) (r : Answer) : Type 0 where
+  -- who gets E_OACV (-27) is denied: the earlier checks pass, and the pattern of the last accepted set-vector, or else of the entry, does not admit the caller's domain
+  pub only : r .outcome ≡ Outcome.Code (negℤ (pos 27)) → DeniedSince (taken b) (history (viewOf s₀) cs) (viewOf s) (c .caller) (c .op)
+  -- and who is denied gets it
+  pub always : DeniedSince (taken b) (history (viewOf s₀) cs) (viewOf s) (c .caller) (c .op) → r .outcome ≡ Outcome.Code (negℤ (pos 27))

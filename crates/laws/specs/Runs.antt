@@ -2,9 +2,9 @@
 use Prim.Native.Nat.{ℕ}
 use mathlib.Core.Path.{_≡_}
 use mathlib.Core.Bool.{true}
-use mathlib.Core.List.{List, [], _∷_}
+use mathlib.Core.List.{List, [], _∷_, _++_}
 use lib.IntN.{ℤ}
-use Rattle.model.specs.Answers.{replyOf}
+use Rattle.model.specs.Answers.{replyOf, whenOk}
 use Rattle.model.specs.Table.{Entry, enter}
 use Rattle.model.specs.Calls.{Call, asks}
 use Rattle.model.specs.History.{Event}
@@ -20,6 +20,11 @@ use Rattle.kernel.specs.Promises.{Begins, Enters, Does, Tells}
 pub data Built : State → Type 0 where
   begun : (n : ℤ) (unit : ℕ) (r : Entered) → Begins n unit r → Built (r .state)
   entered : (s : State) → Built s → (i : Entry) (r : Entered) → Enters s (enter (viewOf s) i) r → Built (r .state)
+
+-- the entries that it took, in order: those answered E_OK
+abbrev pub taken : {s : State} → Built s → List Entry
+taken (begun n unit r g) = []
+taken (entered s b i r g) = taken b ++ whenOk [] (i ∷ []) (enter (viewOf s) i .answer .code)
 
 -- what an answer says: outcome, word and released task, and what a refer tells
 pub record Said : Type 0 where

@@ -5,7 +5,7 @@ use mathlib.Core.Logic.{_≢_}
 use mathlib.Core.Bool.{true, not, _&&_}
 use mathlib.Core.List.{List, [], _∷_}
 use mathlib.Core.Option.{Option, none, some}
-use Prim.Native.Nat.{ℕ, _≤_}
+use Prim.Native.Nat.{ℕ}
 use native.Mathlib.Omega.{arith}
 use lib.ListN.{length}
 use lib.Dec.{leb}
@@ -13,7 +13,6 @@ use lib.IntN.{ℤ, negsuc}
 use Rattle.access.specs.Patterns.{admitted}
 use Rattle.access.specs.Vectors.{patternOf}
 use Rattle.itron.specs.Codes.{Err, eCtx, eId, ePar, eNoexs, eOacv, Code, ok, error}
-use Rattle.itron.specs.Limits.{maxSemaphores, maxQueues}
 use Rattle.model.specs.Lists.{All}
 use Rattle.model.specs.State.{Vector, Waiter, State, semAt, queueAt, domainAt, no}
 use Rattle.model.specs.Answers.{Released, Answer, refuseIf}
@@ -23,6 +22,9 @@ use Rattle.model.specs.Rooms.{Room, ready, inRange, admits, vectorAt, sl
 use Rattle.model.specs.Semaphores as Semaphores
 use Rattle.model.specs.Queues as Queues
 use Rattle.model.specs.Calls.{Op, onSemaphore, onQueue, call, asks, actIf, step}
+use Rattle.model.specs.SemaphoreClaims as SemaphoreClaims
+use Rattle.model.specs.QueueClaims as QueueClaims
+pub use Rattle.model.specs.Denials.{Ready, named, InRange, There}
 use Rattle.model.proofs.Lists.{no-both}
 use Rattle.model.proofs.Rooms.{own-same}
 use Rattle.model.proofs.Semaphores as SemaphoreRoom
@@ -30,33 +32,14 @@ use Rattle.model.proofs.Queues as QueueRoom
 use Rattle.model.proofs.Cover.{lawful}
 use Rattle.model.proofs.Tests.{Tells, le-tells, eq-tells, true-tells, and-tells, not-tells, passes-on, stops-at, later, stopped}
 
--- ---- what the checks ask
--- the table is closed and the caller is a registered ready task
-abbrev pub Ready : State → ℕ → Type 0
-Ready s t = (s .fixed .closed ≡ true) × (((t ≢ 0) × (t ≤ length (s .fixed .domains))) × All (λ (e : Waiter). t ≢ e .task) (s .waits))
-
--- what they ask of a call on an object: its number, the limit of its kind, how many of the kind are registered, and the pattern that governs it
-pub record Facts : Type 0 where
-  pub number : ℤ
-  pub most : ℕ
-  pub registered : ℕ
-  pub pattern : ℕ
-
-abbrev pub facts : State → Op → Facts
-facts s (onSemaphore n a) = record { number = n; most = maxSemaphores; registered = length (s .sems); pattern = SemaphoreRoom.patternFor (semAt s (no n) .vector) a }
-facts s (onQueue n a) = record { number = n; most = maxQueues; registered = length (s .queues); pattern = QueueRoom.patternFor (queueAt s (no n) .vector) a }
-
--- a number from 1 to the limit of its kind
-abbrev pub InRange : State → Op → Type 0
-InRange s op = (no (facts s op .number) ≢ 0) × (no (facts s op .number) ≤ facts s op .most)
-
--- "Not registered"
-abbrev pub There : State → Op → Type 0
-There s op = no (facts s op .number) ≤ facts s op .registered
+-- ---- what the checks ask: the caller, the object's number, whether it is registered (Denials), and the pattern that governs the call
+abbrev pub patternNow : State → Op → ℕ
+patternNow s (onSemaphore n a) = SemaphoreClaims.patternFor (semAt s (no n) .vector) a
+patternNow s (onQueue n a) = QueueClaims.patternFor (queueAt s (no n) .vector) a
 
 -- the caller's domain is admitted
 abbrev pub May : State → ℕ → Op → Type 0
-May s t op = admitted (facts s op .pattern) (domainAt s t) ≡ true
+May s t op = admitted (patternNow s op) (domainAt s t) ≡ true
 
 pub record Passes (s : State) (t : ℤ) (op : Op) : Type 0 where
   pub ready : Ready s (no t)
@@ -72,24 +55,24 @@ absent-tells t (e ∷ l) = and-tells (not-tells (eq-tells t (e .task))) (absent-
 ready-tells : (s : State) (t : ℕ) → Tells (s .fixed .closed && ready s t) (Ready s t)
 ready-tells s t = and-tells (true-tells (s .fixed .closed)) (and-tells (and-tells (not-tells (eq-tells t 0)) (le-tells t _)) (absent-tells t (s .waits)))
 
-range-tells : (s : State) (op : Op) → Tells (inRange (facts s op .most) (no (facts s op .number))) (InRange s op)
-range-tells s op = and-tells (not-tells (eq-tells (no (facts s op .number)) 0)) (le-tells (no (facts s op .number)) (facts s op .most))
+range-tells : (s : State) (op : Op) → Tells (inRange (named s op .most) (no (named s op .number))) (InRange s op)
+range-tells s op = and-tells (not-tells (eq-tells (no (named s op .number)) 0)) (le-tells (no (named s op .number)) (named s op .most))
 
-there-tells : (s : State) (op : Op) → Tells (leb (no (facts s op .number)) (facts s op .registered)) (There s op)
-there-tells s op = le-tells (no (facts s op .number)) (facts s op .registered)
+there-tells : (s : State) (op : Op) → Tells (leb (no (named s op .number)) (named s op .registered)) (There s op)
+there-tells s op = le-tells (no (named s op .number)) (named s op .registered)
 
-may-tells : (s : State) (t : ℕ) (op : Op) → Tells (admits (domainAt s t) (facts s op .pattern)) (May s t op)
+may-tells : (s : State) (t : ℕ) (op : Op) → Tells (admits (domainAt s t) (patternNow s op)) (May s t op)
 may-tells s t op = true-tells _
 
 -- the checks by these tests: no call has others
 abbrev afterThere : State → ℕ → Op → Option Err
-afterThere s t op = refuseIf (not (admits (domainAt s t) (facts s op .pattern))) eOacv none
+afterThere s t op = refuseIf (not (admits (domainAt s t) (patternNow s op))) eOacv none
 
 abbrev afterRange : State → ℕ → Op → Option Err
-afterRange s t op = refuseIf (not (leb (no (facts s op .number)) (facts s op .registered))) eNoexs (afterThere s t op)
+afterRange s t op = refuseIf (not (leb (no (named s op .number)) (named s op .registered))) eNoexs (afterThere s t op)
 
 abbrev afterReady : State → ℕ → Op → Option Err
-afterReady s t op = refuseIf (not (inRange (facts s op .most) (no (facts s op .number)))) eId (afterRange s t op)
+afterReady s t op = refuseIf (not (inRange (named s op .most) (no (named s op .number)))) eId (afterRange s t op)
 
 abbrev checks : State → ℕ → Op → Option Err
 checks s t op = refuseIf (not (s .fixed .closed && ready s t)) eCtx (afterReady s t op)

@@ -20,6 +20,7 @@ pub mod Turns
 pub mod Sound
 pub mod Table
 pub mod Answers
+pub mod Denials
 pub mod SemaphoreAnswers
 pub mod QueueAnswers
 pub mod Bounds

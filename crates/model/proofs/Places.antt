@@ -16,7 +16,7 @@ use Rattle.model.specs.Calls.{Op, call, step}
 use Rattle.model.proofs.Lists.{no-both}
 use Rattle.model.proofs.WaitQueues.{place-of, alike}
 use Rattle.model.proofs.Rooms.{is-refer}
-use Rattle.model.proofs.Answers.{Ready, facts, refuses, id-when}
+use Rattle.model.proofs.Answers.{Ready, named, refuses, id-when}
 
 -- ---- the (k+1)th entry of a kind has the number k + 1
 module _ {A : Type 0} where
@@ -38,7 +38,7 @@ pub as-given : (n : ℕ) → no (pos n) ≡ n
 as-given n = refl
 
 -- a number below 0 names no object
-pub no-such-object : (s : State) (t : ℤ) (op : Op) (k : ℕ) → Ready s (no t) → facts s op .number ≡ negsuc k → step s (call t op) .answer ≡ refuses eId
+pub no-such-object : (s : State) (t : ℤ) (op : Op) (k : ℕ) → Ready s (no t) → named s op .number ≡ negsuc k → step s (call t op) .answer ≡ refuses eId
 no-such-object s t op k r h = id-when s t op r (λ i. i .0 (ap no h))
 
 -- what counts as a refer (isRefer) is one: no own call and no set-vector does

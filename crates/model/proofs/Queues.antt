@@ -19,7 +19,7 @@ use Rattle.model.specs.Waits.{Patience, polling, forever, waitersIn, joi
 use Rattle.model.specs.Acts.{Act, own, refer, setVector, ofOwn, operationOf}
 use Rattle.model.specs.Rooms.{setVectorOf, actOn}
 use Rattle.model.specs.Queues.{QueueCall, send, receive, operation, queueIn, setBuffer, hasRoom, begins, serves, sendBy, receiveBy, does, room}
-use Rattle.model.specs.QueueClaims.{wordsIn, sentIn, handedIn}
+use Rattle.model.specs.QueueClaims.{patternFor, wordsIn, sentIn, handedIn}
 use Rattle.model.specs.Conditions.{Plain}
 use Rattle.model.proofs.Lists.{Distinct, cons-ne, at-put-same, at-put-keep}
 use Rattle.model.proofs.WaitQueues.{alike, leave-here, leave-elsewhere, join-here, join-elsewhere}
@@ -133,12 +133,6 @@ pub via : {v v′ v″ : QView} {given taken : List ℕ} → v″ ≡ v′ → K
 via {v} {given} {taken} e k = subst (λ (u : QView). Kept v u given taken) (sym e) k
 
 -- ---- "both sends are normal operation 1 .. both receives are normal operation 2. Set-vector is management, refer is reference"
-abbrev pub patternFor : Vector → Act QueueCall → ℕ
-patternFor v (own (send p w)) = v .normal1
-patternFor v (own (receive p)) = v .normal2
-patternFor v refer = v .reference
-patternFor v (setVector w) = v .management
-
 pub governs : (v : Vector) (a : Act QueueCall) → patternOf v (operationOf operation a) ≡ patternFor v a
 governs v (own (send p w)) = refl
 governs v (own (receive p)) = refl

@@ -1,12 +1,12 @@
 -- A release belongs to a wait, proved of every list of calls. Assumes nothing.
-use mathlib.Core.Path.{_≡_, refl, sym, ap, _∙_, subst}
-use mathlib.Core.Logic.{_≢_, inl, inr}
+use mathlib.Core.Path.{_≡_, refl, ap, subst}
+use mathlib.Core.Logic.{inl, inr}
 use mathlib.Core.Bool.{Bool, true, false, not}
 use mathlib.Core.List.{List, [], _∷_}
 use mathlib.Core.Option.{Option, some}
 use Prim.Native.Nat.{ℕ}
 use Rattle.itron.specs.Codes.{ok}
-use Rattle.model.specs.Lists.{consIf, keep, All, Some, Each}
+use Rattle.model.specs.Lists.{consIf, All, Each}
 use Rattle.model.specs.State.{Place, Waiter, State}
 use Rattle.model.specs.Answers.{Released, Out}
 use Rattle.model.specs.Waits.{standsAt, isOther, waitersIn, leave}
@@ -15,7 +15,7 @@ use Rattle.model.specs.Rooms.{Asks}
 use Rattle.model.specs.Semaphores.{signal, acquire}
 use Rattle.model.specs.Queues.{send, receive}
 use Rattle.model.specs.Calls.{Op, onSemaphore, onQueue, Call, asks, step}
-use Rattle.model.specs.History.{event, after, history, pending}
+use Rattle.model.specs.History.{event, after, history}
 use Rattle.model.specs.Releases.{servedBy, WaitsAt, WaitsNot, EndsWait, ReleasesWaiters}
 use Rattle.model.proofs.Lists.{no-both, eqb-same, cons-ne}
 use Rattle.model.proofs.WaitQueues.{place-of}

@@ -17,7 +17,7 @@ use Rattle.model.specs.Waits.{Patience, polling, forever, waitersIn, joi
 use Rattle.model.specs.Acts.{Act, own, refer, setVector, ofOwn, operationOf}
 use Rattle.model.specs.Rooms.{actOn}
 use Rattle.model.specs.Semaphores.{SemaphoreCall, signal, acquire, operation, semIn, setCount, begins, serves, signalBy, acquireBy, does, room}
-use Rattle.model.specs.SemaphoreClaims.{signalIn, grantIn}
+use Rattle.model.specs.SemaphoreClaims.{patternFor, signalIn, grantIn}
 use Rattle.model.specs.Conditions.{Plain}
 use Rattle.model.proofs.Lists.{at-put-same, at-put-keep}
 use Rattle.model.proofs.Endings.{SameBut, same-all, same-put, Ends}
@@ -29,12 +29,6 @@ abbrev tag : ℕ
 tag = roomOf onSem
 
 -- ---- "Signal .. [is] normal operation 1. Poll, wait .. are normal operation 2. Set-vector is management, refer is reference"
-abbrev pub patternFor : Vector → Act SemaphoreCall → ℕ
-patternFor v (own signal) = v .normal1
-patternFor v (own (acquire p)) = v .normal2
-patternFor v refer = v .reference
-patternFor v (setVector w) = v .management
-
 pub governs : (v : Vector) (a : Act SemaphoreCall) → patternOf v (operationOf operation a) ≡ patternFor v a
 governs v (own signal) = refl
 governs v (own (acquire p)) = refl

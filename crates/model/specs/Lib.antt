@@ -18,4 +18,5 @@ pub mod SemaphoreClaims
 pub mod QueueClaims
 pub mod Releases
 pub mod Demand3
+pub mod Denials
 pub mod Turns

@@ -10,7 +10,7 @@ use Rattle.access.specs.Patterns.{admitted}
 use Rattle.model.specs.Lists.{All, keep, words, Each}
 use Rattle.model.specs.State.{Vector, Side, receiving, sending, Waiter, no}
 use Rattle.model.specs.Answers.{Released, Answer, whenOk, whenWaiting, whenAccepted}
-use Rattle.model.specs.Acts.{Act}
+use Rattle.model.specs.Acts.{Act, own, refer, setVector}
 use Rattle.model.specs.Queues.{QueueCall, send, receive}
 use Rattle.model.specs.Calls.{Op, onSemaphore, onQueue}
 use Rattle.model.specs.History.{History, Made, seenBy, askedIf, ofAsked, vectorSince}
@@ -22,6 +22,13 @@ askedOf q (onQueue n a) = askedIf (eqb q (no n)) a
 
 abbrev pub byQueue : ℕ → History → List (Made QueueCall)
 byQueue q h = map (seenBy (askedOf q)) h
+
+-- ---- the pattern that governs a call: both sends are normal operation 1; both receives are normal operation 2; set-vector is management, refer is reference
+abbrev pub patternFor : Vector → Act QueueCall → ℕ
+patternFor v (own (send p w)) = v .normal1
+patternFor v (own (receive p)) = v .normal2
+patternFor v refer = v .reference
+patternFor v (setVector w) = v .management
 
 -- ---- what is counted
 -- a send of any kind is accepted when it answers E_OK or "waiting": its word

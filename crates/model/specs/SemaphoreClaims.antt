@@ -6,9 +6,9 @@ use Prim.Native.Nat.{ℕ, _+_}
 use lib.Dec.{eqb}
 use lib.ListN.{length}
 use Rattle.model.specs.Lists.{total}
-use Rattle.model.specs.State.{Side, onSem, no}
+use Rattle.model.specs.State.{Vector, Side, onSem, no}
 use Rattle.model.specs.Answers.{Released, whenOk}
-use Rattle.model.specs.Acts.{Act}
+use Rattle.model.specs.Acts.{Act, own, refer, setVector}
 use Rattle.model.specs.Semaphores.{SemaphoreCall, signal, acquire}
 use Rattle.model.specs.Calls.{Op, onSemaphore, onQueue}
 use Rattle.model.specs.History.{History, Made, seenBy, askedIf, ofAsked}
@@ -20,6 +20,13 @@ askedOf i (onQueue n a) = none
 
 abbrev pub bySemaphore : ℕ → History → List (Made SemaphoreCall)
 bySemaphore i h = map (seenBy (askedOf i)) h
+
+-- ---- the pattern that governs a call: signal is normal operation 1; poll and wait are normal operation 2; set-vector is management, refer is reference
+abbrev pub patternFor : Vector → Act SemaphoreCall → ℕ
+patternFor v (own signal) = v .normal1
+patternFor v (own (acquire p)) = v .normal2
+patternFor v refer = v .reference
+patternFor v (setVector w) = v .management
 
 -- ---- what is counted
 -- a signal is accepted when it answers E_OK
