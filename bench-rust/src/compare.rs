@@ -16,9 +16,10 @@ const ALL_FUNCTIONS: [u32; 13] = [
     SIG_SEM, SIG_SEM, POL_SEM, WAI_SEM, REF_SEM, SAC_SEM, PSND_DTQ, PSND_DTQ, SND_DTQ, PRCV_DTQ, RCV_DTQ, REF_DTQ,
     SAC_DTQ,
 ];
-const WRONG_FUNCTIONS: [u32; 4] = [0, 12, 0x8000_0000, u32::MAX];
-const WRONG_CALLERS: [i32; 7] = [-1, 0, 5, 255, 256, i32::MIN, i32::MAX];
-const WRONG_OBJECTS: [i32; 10] = [0, -1, 2, 3, 16, 17, 64, 65, i32::MIN, i32::MAX];
+/// Some of them are good but for bits above the low 16.
+const WRONG_FUNCTIONS: [u32; 6] = [0, 12, 0x1_0002, 0x1_0006, 0x8000_0000, u32::MAX];
+const WRONG_CALLERS: [i32; 9] = [-1, 0, 5, 255, 256, 0x1_0003, i32::MIN, i32::MIN + 1, i32::MAX];
+const WRONG_OBJECTS: [i32; 12] = [0, -1, 2, 3, 16, 17, 64, 65, 0x1_0001, i32::MIN, i32::MIN + 1, i32::MAX];
 
 const CODES: [Er; 9] = [WAITING, E_OK, E_RSFN, E_ID, E_CTX, E_OACV, E_NOEXS, E_QOVR, E_TMOUT];
 const NAMES: [&str; 9] = ["waiting", "E_OK", "E_RSFN", "E_ID", "E_CTX", "E_OACV", "E_NOEXS", "E_QOVR", "E_TMOUT"];
@@ -31,7 +32,7 @@ impl Random {
         Random(seed)
     }
 
-    fn next(&mut self) -> u32 {
+    pub fn next(&mut self) -> u32 {
         self.0 ^= self.0 << 13;
         self.0 ^= self.0 >> 7;
         self.0 ^= self.0 << 17;
@@ -74,6 +75,10 @@ fn random_call(random: &mut Random, ready: &[i32]) -> [u32; CALL_WORDS] {
     let wide = !random.one_in(4);
     for pattern in &mut call[4..] {
         *pattern = if wide { random.pick(&[1, 3, 3, 3]) } else { random.pick(&[0, 1, 2, 3, u32::MAX, 0xFFFF_FFFC]) };
+        // The bits of domains that the bench table has not are to be kept and to admit nobody.
+        if random.one_in(2) {
+            *pattern ^= random.next() << 2;
+        }
     }
     call
 }

@@ -8,16 +8,30 @@ use std::io::Write;
 use std::process::{Command, Stdio};
 
 const SEED: u64 = 88_172_645_463_325_252;
-const SCRIPTS: u32 = 300;
+const SCRIPTS: u32 = 600;
 const PROGRAM: &str = "../target/bin/replay";
 
 const ENDS: [i32; 12] = [i32::MIN, -3, -2, -1, 0, 17, 33, 64, 65, 255, 256, i32::MAX];
+
+/// Tasks that a table has from the start, one of them the kernel's.
+const TASKS: usize = 8;
+
+/// How many calls of a domain a pattern admitted, and how many it denied.
+#[derive(Clone, Copy, Default)]
+struct Judged {
+    admitted: u32,
+    denied: u32,
+}
 
 /// Commands, and the lines that `replay` is to write for them.
 #[derive(Default)]
 struct Script {
     commands: String,
     lines: Vec<String>,
+    /// User domains that its entries and verdicts are for, and the domain of each task taken.
+    domains: usize,
+    tasks: Vec<i32>,
+    judged: BTreeMap<i32, Judged>,
 }
 
 impl Script {
@@ -25,6 +39,31 @@ impl Script {
         self.lines.push(format!("{command} -> {answer}"));
         self.commands.push_str(&command);
         self.commands.push('\n');
+    }
+
+    fn add_task(&mut self, kernel: &mut Kernel, domain: i32) {
+        let answer = kernel.add_task(domain);
+        if answer.is_ok() {
+            self.tasks.push(domain);
+        }
+        self.add(format!("task {domain}"), code(answer));
+    }
+
+    fn user(&self, random: &mut Random) -> i32 {
+        random.below(self.domains) as i32 + 1
+    }
+
+    /// What the last line says of the pattern that judged this task's call.
+    fn count_judged(&mut self, task: i32) {
+        let outcome = self.lines.last().and_then(|line| line.split(" -> ").nth(1)).and_then(|a| a.split(' ').next());
+        let place = usize::try_from(task).ok().and_then(|number| number.checked_sub(1));
+        let Some(&domain) = place.and_then(|place| self.tasks.get(place)) else { return };
+        let judged = self.judged.entry(domain).or_default();
+        match outcome {
+            Some("E_OACV") => judged.denied += 1,
+            Some("E_OK" | "waiting" | "E_TMOUT" | "E_QOVR") => judged.admitted += 1,
+            _ => {}
+        }
     }
 }
 
@@ -78,8 +117,21 @@ fn refer(answer: Result<Referred, Er>, first: &str, second: Option<&str>) -> Str
     format!("{code} {first}={waiter}{receiver} count={count} vector={}", patterns(vector, ","))
 }
 
+/// Patterns of every number of bits: half of all domains, most of them, all but one, two or three, one or none.
+fn random_pattern(random: &mut Random) -> u32 {
+    let bit = |random: &mut Random| 1 << random.below(u32::BITS as usize);
+    match random.below(10) {
+        0 | 1 => random.next(),
+        2 | 3 => random.next() | random.next() | 3,
+        4 | 5 => !bit(random),
+        6 => bit(random) | bit(random) | bit(random),
+        7 => random.pick(&[3, 3, 0x0001_0003, 0x4000_0004, 0xC000_0000, 0x8001_0000]),
+        _ => random.pick(&[0, 1, 2, 3, u32::MAX, u32::MAX, 0x8000_0000]),
+    }
+}
+
 fn random_vector(random: &mut Random) -> Vector {
-    let mut pattern = || random.pick(&[0, 1, 2, 3, 3, 3, u32::MAX, 0x8000_0000]);
+    let mut pattern = || random_pattern(random);
     Vector::new(pattern(), pattern(), pattern(), pattern())
 }
 
@@ -93,7 +145,7 @@ struct Protection {
 
 fn with_another_pattern(random: &mut Random, vector: Vector) -> Vector {
     let mut patterns = [vector.normal1, vector.normal2, vector.management, vector.reference];
-    patterns[random.below(patterns.len())] ^= 4;
+    patterns[random.below(patterns.len())] ^= 1 << random.below(u32::BITS as usize);
     let [normal1, normal2, management, reference] = patterns;
     Vector::new(normal1, normal2, management, reference)
 }
@@ -129,12 +181,13 @@ impl Last {
 
 /// An entry of any kind.
 fn entry(random: &mut Random, kernel: &mut Kernel, script: &mut Script, last: &mut Last) {
-    let good = random.pick(&[TDOM_KERNEL, -2, 1, 2]);
+    let user = script.user(random);
+    let good = random.pick(&[TDOM_KERNEL, -2, user, user, user]);
     let domain = random.mostly(good, 9, &ENDS);
     let atr = random.mostly(0, 10, &[1, 2, 4, 5, 8, u32::MAX]);
     let vector = (!random.one_in(3)).then(|| random_vector(random));
     match random.below(4) {
-        0 => script.add(format!("task {domain}"), code(kernel.add_task(domain))),
+        0 => script.add_task(kernel, domain),
         1 => {
             let (start, max) = (random.pick(&[0, 0, 1, 2, 65_535]), random.pick(&[0, 1, 2, 2, 65_535, 65_536]));
             let answer = code(kernel.add_semaphore(domain, atr, start, max, vector));
@@ -190,7 +243,8 @@ fn queue_call(random: &mut Random, kernel: &mut Kernel, script: &mut Script, tas
 }
 
 fn verdict(random: &mut Random, kernel: &mut Kernel, script: &mut Script, last: &Last) {
-    let good = random.pick(&[TDOM_KERNEL, 1, 2]);
+    let user = script.user(random);
+    let good = random.pick(&[TDOM_KERNEL, user, user, user]);
     let domain = random.mostly(good, 10, &ENDS);
     let inside = random.below(last.end.max(1) as usize) as u32;
     let base = random.mostly(inside, 6, &[0, 0xFFFF_F000, u32::MAX]);
@@ -207,13 +261,18 @@ const NO_UNITS: [Option<u32>; 6] =
 /// A table, mostly closed, then calls and verdicts.
 fn random_script(random: &mut Random) -> Script {
     let (mut script, mut kernel, mut last) = (Script::default(), Kernel::EMPTY, Last::default());
-    let n = random.mostly(2, 6, &ENDS);
+    let any = random.below(MAX_DOMAINS as usize) as i32 + 1;
+    let good = random.pick(&[2, 2, 3, any, any, any, MAX_DOMAINS, MAX_DOMAINS]);
+    let n = random.mostly(good, 6, &ENDS);
+    script.domains = good as usize;
     let good = random.pick(&UNITS);
     let unit = random.mostly(good, 9, &NO_UNITS);
     let given = unit.map_or(String::new(), |unit| format!(" {unit}"));
     script.add(format!("fresh {n}{given}"), code(kernel.fresh(n, unit.unwrap_or(1))));
-    for domain in [1, 2, TDOM_KERNEL, 1, 1, 2] {
-        script.add(format!("task {domain}"), code(kernel.add_task(domain)));
+    let kernels = random.below(TASKS);
+    for number in 0..TASKS {
+        let domain = if number == kernels { TDOM_KERNEL } else { script.user(random) };
+        script.add_task(&mut kernel, domain);
     }
     // The largest number can fill every kind up.
     for _ in 0..random.pick(&[8, 20, 90, 1_500]) {
@@ -223,15 +282,18 @@ fn random_script(random: &mut Random) -> Script {
         script.add("close".to_string(), code(kernel.close()));
     }
     for _ in 0..400 {
-        let good = random.below(8) as i32 + 1;
+        let good = random.below(TASKS + 2) as i32 + 1;
         let task = random.mostly(good, 25, &ENDS);
-        let good = random.pick(&[1, 1, 1, 2, 2, 3, 4]);
+        let good = random.pick(&[1, 1, 1, 2, 2, 3, 4, 5, 7]);
         let id = random.mostly(good, 25, &ENDS);
         match random.below(12) {
             0 => verdict(random, &mut kernel, &mut script, &last),
             1 => entry(random, &mut kernel, &mut script, &mut last),
-            2..=6 => semaphore_call(random, &mut kernel, &mut script, task, id),
-            _ => queue_call(random, &mut kernel, &mut script, task, id),
+            kind => {
+                let make = if kind <= 6 { semaphore_call } else { queue_call };
+                make(random, &mut kernel, &mut script, task, id);
+                script.count_judged(task);
+            }
         }
     }
     script
@@ -252,6 +314,7 @@ fn replay(commands: &str) -> String {
 
 pub fn compare() {
     let (mut random, mut lines, mut codes) = (Random::new(SEED), 0, BTreeMap::new());
+    let mut judged: BTreeMap<i32, Judged> = BTreeMap::new();
     for number in 0..SCRIPTS {
         let script = random_script(&mut random);
         let output = replay(&script.commands);
@@ -260,6 +323,11 @@ pub fn compare() {
         }
         assert_eq!(output.lines().count(), script.lines.len(), "script {number}: how many lines");
         lines += script.lines.len();
+        for (domain, Judged { admitted, denied }) in script.judged {
+            let sum = judged.entry(domain).or_default();
+            sum.admitted += admitted;
+            sum.denied += denied;
+        }
         for outcome in
             script.lines.iter().filter_map(|line| line.split_whitespace().skip_while(|&word| word != "->").nth(1))
         {
@@ -268,4 +336,7 @@ pub fn compare() {
     }
     println!("\nTables, calls and verdicts, seed {SEED}: {lines} lines of `replay` in {SCRIPTS} scripts alike.");
     println!("What came back: {codes:?}");
+    let users = (1..=MAX_DOMAINS).map(|domain| judged.get(&domain).copied().unwrap_or_default());
+    let (admitted, denied) = users.fold((u32::MAX, u32::MAX), |(a, d), one| (a.min(one.admitted), d.min(one.denied)));
+    println!("Of each user domain, 1 to {MAX_DOMAINS}, at least {admitted} calls were admitted and {denied} denied.");
 }

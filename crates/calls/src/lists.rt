@@ -1,4 +1,4 @@
-// The lists: runs S and Q of document 01, what refers tell, what is no call, answers without room.
+// The lists: runs S and Q of document 01, what refers tell, what is no call, numbers of 2^16 and more, answers without room.
 use crate::list::List;
 use crate::run::ANSWERS;
 use crate::run::show;
@@ -76,6 +76,75 @@ pub fn no_calls() {
     list = list.with(POL_SEM, 3, 0x8000_0000, 0);
     list = list.longer(5);
     show(b"\n\nNo calls", list, ANSWERS);
+}
+
+// Words of 2^16 and more come back as they were sent: from a buffer, with a released receiver, from a waiting sender.
+pub fn large_words() {
+    let mut list = List::EMPTY;
+    list = list.with(PSND_DTQ, 1, 1, 65_536);
+    list = list.with(PSND_DTQ, 1, 1, 65_537);
+    list = list.with(PRCV_DTQ, 4, 1, 0);
+    list = list.with(PRCV_DTQ, 4, 1, 0);
+    list = list.with(RCV_DTQ, 4, 1, 0);
+    list = list.with(PSND_DTQ, 1, 1, 0x1234_5678);
+    list = list.with(SND_DTQ, 2, 2, u32::MAX);
+    list = list.with(RCV_DTQ, 1, 2, 0);
+    list = list.with(RCV_DTQ, 2, 2, 0);
+    list = list.with(PSND_DTQ, 1, 2, 0xFFFF_0000);
+    list = list.with(PSND_DTQ, 1, 1, 0x8000_0000);
+    list = list.with(PSND_DTQ, 1, 1, u32::MAX);
+    list = list.with(SND_DTQ, 1, 1, 65_536);
+    list = list.with(PRCV_DTQ, 4, 1, 0);
+    list = list.with(PRCV_DTQ, 4, 1, 0);
+    list = list.with(PRCV_DTQ, 4, 1, 0);
+    show(b"\n\nLarge words", list, ANSWERS);
+}
+
+// Functions, callers and objects of 2^16 and more are none, though their low 16 bits are; the last two calls find nothing changed.
+pub fn large_numbers() {
+    let mut list = List::EMPTY;
+    list = list.with(POL_SEM, 65_537, 1, 0);
+    list = list.with(POL_SEM, u32::MAX, 1, 0);
+    list = list.with(POL_SEM, 1, 65_537, 0);
+    list = list.with(POL_SEM, 1, u32::MAX, 0);
+    list = list.with(PSND_DTQ, 1, 65_537, 700);
+    list = list.with(PSND_DTQ, 1, 65_538, 700);
+    list = list.with(PRCV_DTQ, 3, u32::MAX, 0);
+    list = list.with(65_537, 1, 1, 0);
+    list = list.with(65_542, 1, 1, 700);
+    list = list.with(0x0001_0004, 1, 1, 0);
+    list = list.with(0x8000_0002, 1, 1, 0);
+    list = list.with(POL_SEM, 0x8000_0001, 1, 0);
+    list = list.with(SAC_SEM, 65_539, 1, 0).patterns(3, 3, 3, 3);
+    list = list.with(SIG_SEM, 1, 0x7FFF_0001, 0);
+    list = list.with(REF_SEM, 3, 1, 0);
+    list = list.with(REF_DTQ, 3, 1, 0);
+    show(b"\n\nLarge numbers", list, ANSWERS);
+}
+
+// Patterns of 2^16 and more are kept whole; domains 1 and 2 are judged by their bits alone.
+pub fn large_patterns() {
+    let mut list = List::EMPTY;
+    list = list.with(SAC_SEM, 3, 1, 0)
+        .patterns(0x1234_0001, 0xFFFF_0001, 0x8000_0000, 0x0001_0003);
+    list = list.with(REF_SEM, 1, 1, 0);
+    list = list.with(POL_SEM, 2, 1, 0);
+    list = list.with(POL_SEM, 1, 1, 0);
+    list = list.with(SIG_SEM, 1, 1, 0);
+    list = list.with(SAC_DTQ, 3, 2, 0)
+        .patterns(65_536, 65_538, 0xFFFF_FFFC, u32::MAX);
+    list = list.with(REF_DTQ, 2, 2, 0);
+    list = list.with(PSND_DTQ, 1, 2, 7);
+    list = list.with(PSND_DTQ, 2, 2, 7);
+    list = list.with(RCV_DTQ, 1, 2, 0);
+    list = list.with(RCV_DTQ, 2, 2, 0);
+    list = list.with(PSND_DTQ, 3, 2, 65_539);
+    list = list.with(SAC_DTQ, 2, 2, 0).patterns(3, 3, 3, 3);
+    list = list.with(SAC_DTQ, 3, 1, 0)
+        .patterns(0xFFFE_FFFF, 0x7FFF_FFFF, 65_536, 0xFFFF_0002);
+    list = list.with(REF_DTQ, 1, 1, 0);
+    list = list.with(REF_DTQ, 2, 1, 0);
+    show(b"\n\nLarge patterns", list, ANSWERS);
 }
 
 // Room for one answer and some words more.

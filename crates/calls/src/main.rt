@@ -10,6 +10,9 @@ fn main() {
     lists::run_q();
     lists::refers();
     lists::no_calls();
+    lists::large_words();
+    lists::large_numbers();
+    lists::large_patterns();
     lists::short_answers();
     text(b"\n");
 }
