@@ -1,8 +1,8 @@
 -- "E_OACV exactly when denied", of every run of the program. Assumes nothing.
-use mathlib.Core.Path.{_≡_, refl, sym, ap, _∙_, subst}
+use mathlib.Core.Path.{_≡_, sym, ap, _∙_, subst}
 use mathlib.Core.Logic.{_⊎_, inl, inr}
 use mathlib.Core.List.{List}
-use Rattle.itron.specs.Codes.{Code, error, eOacv}
+use Rattle.itron.specs.Codes.{error, eOacv}
 use Rattle.model.specs.State as Model
 use Rattle.model.specs.Answers.{outcomeOf}
 use Rattle.model.specs.Table.{close}

@@ -1,3 +1,5 @@
 pub mod Runs
+pub mod Full
 pub mod Denials
 pub mod Starred
+pub mod Made

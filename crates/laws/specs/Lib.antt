@@ -1,3 +1,4 @@
 pub mod Runs
 pub mod Claims
 pub mod Starred
+pub mod Made

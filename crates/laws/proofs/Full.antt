@@ -1,0 +1,120 @@
+-- Built and Ran leave nothing out: every entry, refused ones too, and every call are in the claims about runs; one run has a refused entry and each kind of call. Assumes nothing.
+use Prim.Native.Nat.{ℕ, zero, suc}
+use mathlib.Core.Path.{_≡_, refl, ap, _∙_}
+use mathlib.Core.Bool.{true}
+use mathlib.Core.List.{List, [], _∷_}
+use lib.IntN.{pos, negℤ}
+use Rattle.access.specs.Vectors.{privateOf}
+use Rattle.itron.specs.Limits.{minUnit}
+use Rattle.model.specs.State as Model
+use Rattle.model.specs.Answers.{codeOf}
+use Rattle.model.specs.Table.{Entry, task, fresh, enter, close}
+use Rattle.model.specs.Units.{unitOk}
+use Rattle.model.specs.Acts.{own, refer, setVector}
+use Rattle.model.specs.declared.sem.SemaphoreCall.the-variants.{Signal as signal, Acquire as acquire}
+use Rattle.model.specs.declared.dtq.QueueCall.the-variants.{Send as send, Receive as receive}
+use Rattle.model.specs.declared.Patience.the-variants.{Polling, Forever}
+use Rattle.model.specs.Calls.{Call, call, onSemaphore, onQueue, asks}
+use Rattle.kernel.specs.declared.state.State.{State}
+use Rattle.kernel.specs.declared.state.Answer.{Answer}
+use Rattle.kernel.specs.declared.state.Entered.{Entered}
+use Rattle.kernel.specs.View.{viewOf}
+use Rattle.kernel.specs.Promises.{Begins, Enters, Does, Tells}
+use Rattle.laws.specs.Runs.{Built, begun, entered, Said, saidBy, Ran, start, calls, refers}
+use Rattle.laws.specs.Claims.{Whole}
+use Rattle.laws.proofs.Runs.{whole}
+
+-- ---- whatever the entry answers, and whatever the call is
+pub every-entry : (s : State) → Built s → (i : Entry) (r : Entered) → Enters s (enter (viewOf s) i) r → Built (r .state)
+every-entry s b i r g = entered s b i r g
+
+module _ (s₀ : State) (cs : List Call) (s : State) (l : List Said) (h : Ran s₀ cs s l) (c : Call) (r : Answer) where
+  pub every-call : Does s c r → Ran s₀ (c ∷ cs) (r .state) (saidBy r ∷ l)
+  every-call d = calls cs s l h c r d
+
+  pub every-refer : asks (c .op) .isRefer ≡ true → Tells s c r → Ran s₀ (c ∷ cs) (r .state) (saidBy r ∷ l)
+  every-refer e d = refers cs s l h c e r d
+
+-- ---- one run: n = 2, a task of domain 3, which is refused, one closing, then a call of each kind, in document 01's order
+abbrev signals : Call
+signals = call (pos 1) (onSemaphore (pos 1) (own signal))
+
+abbrev polls : Call
+polls = call (pos 1) (onSemaphore (pos 1) (own (acquire Polling)))
+
+abbrev waits : Call
+waits = call (pos 1) (onSemaphore (pos 1) (own (acquire Forever)))
+
+abbrev refersToSemaphore : Call
+refersToSemaphore = call (pos 1) (onSemaphore (pos 1) refer)
+
+abbrev setsSemaphore : Call
+setsSemaphore = call (pos 1) (onSemaphore (pos 1) (setVector (privateOf (pos 1))))
+
+abbrev pollSends : Call
+pollSends = call (pos 1) (onQueue (pos 1) (own (send Polling 700)))
+
+abbrev sends : Call
+sends = call (pos 1) (onQueue (pos 1) (own (send Forever 700)))
+
+abbrev pollReceives : Call
+pollReceives = call (pos 1) (onQueue (pos 1) (own (receive Polling)))
+
+abbrev receives : Call
+receives = call (pos 1) (onQueue (pos 1) (own (receive Forever)))
+
+abbrev refersToQueue : Call
+refersToQueue = call (pos 1) (onQueue (pos 1) refer)
+
+abbrev setsQueue : Call
+setsQueue = call (pos 1) (onQueue (pos 1) (setVector (privateOf (pos 1))))
+
+-- the newest first
+abbrev each : List Call
+each = setsQueue ∷ refersToQueue ∷ receives ∷ pollReceives ∷ sends ∷ pollSends ∷ setsSemaphore ∷ refersToSemaphore ∷ waits ∷ polls ∷ signals ∷ []
+
+-- the state that a call gets: from the first one s, from each other what the answer before gave
+abbrev stateAt : State → (ℕ → Answer) → ℕ → State
+stateAt s a zero = s
+stateAt s a (suc k) = a k .state
+
+-- the answers of the program to these calls
+pub record EachKind (s : State) (a : ℕ → Answer) : Type 0 where
+  pub signalled : Does (stateAt s a 0) signals (a 0)
+  pub polled : Does (stateAt s a 1) polls (a 1)
+  pub waited : Does (stateAt s a 2) waits (a 2)
+  pub semaphoreTold : Tells (stateAt s a 3) refersToSemaphore (a 3)
+  pub semaphoreSet : Does (stateAt s a 4) setsSemaphore (a 4)
+  pub pollSent : Does (stateAt s a 5) pollSends (a 5)
+  pub sent : Does (stateAt s a 6) sends (a 6)
+  pub pollReceived : Does (stateAt s a 7) pollReceives (a 7)
+  pub received : Does (stateAt s a 8) receives (a 8)
+  pub queueTold : Tells (stateAt s a 9) refersToQueue (a 9)
+  pub queueSet : Does (stateAt s a 10) setsQueue (a 10)
+
+abbrev saidTo : (ℕ → Answer) → ℕ → List Said
+saidTo a zero = []
+saidTo a (suc k) = saidBy (a k) ∷ saidTo a k
+
+each-ran : (s : State) (a : ℕ → Answer) → EachKind s a → Ran s each (a 10 .state) (saidTo a 11)
+each-ran s a k =
+    let h₁ = calls _ _ _ start signals (a 0) (k .signalled) in
+    let h₂ = calls _ _ _ h₁ polls (a 1) (k .polled) in
+    let h₃ = calls _ _ _ h₂ waits (a 2) (k .waited) in
+    let h₄ = refers _ _ _ h₃ refersToSemaphore refl (a 3) (k .semaphoreTold) in
+    let h₅ = calls _ _ _ h₄ setsSemaphore (a 4) (k .semaphoreSet) in
+    let h₆ = calls _ _ _ h₅ pollSends (a 5) (k .pollSent) in
+    let h₇ = calls _ _ _ h₆ sends (a 6) (k .sent) in
+    let h₈ = calls _ _ _ h₇ pollReceives (a 7) (k .pollReceived) in
+    let h₉ = calls _ _ _ h₈ receives (a 8) (k .received) in
+    let h₁₀ = refers _ _ _ h₉ refersToQueue refl (a 9) (k .queueTold) in
+    calls _ _ _ h₁₀ setsQueue (a 10) (k .queueSet)
+
+-- the entry is refused by E_ID (-18), and demand 3 holds of the run
+pub full-run : (r₀ r₁ r₂ : Entered) → Begins (pos 2) minUnit r₀ → Enters (r₀ .state) (enter (viewOf (r₀ .state)) (task (pos 3))) r₁ → Enters (r₁ .state) (close (viewOf (r₁ .state))) r₂
+    → (a : ℕ → Answer) → EachKind (r₂ .state) a → (r₁ .code ≡ negℤ (pos 18)) × Whole (r₂ .state) (a 10 .state) each (saidTo a 11)
+unfolding enter fresh unitOk
+full-run r₀ r₁ r₂ b e g a k = (
+  ap (λ (r : Entered). r .code) (e .same) ∙ ap (λ (m : Model.State). codeOf (enter m (task (pos 3)) .answer .code)) (b .seen),
+  whole (entered (r₀ .state) (begun (pos 2) minUnit r₀ b) (task (pos 3)) r₁ e) g (each-ran (r₂ .state) a k),
+)
