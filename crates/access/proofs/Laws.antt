@@ -23,7 +23,6 @@ use Rattle.access.specs.Patterns.{allZeros, allOnes, admitted}
 use Rattle.access.specs.Vectors.{patternOf, uniform, privateOf, defaultOf, resolved}
 use Rattle.access.specs.Audits.{countTo, orElse, lowestTo, admissionsOf, noAdmissions, auditOf}
 use Rattle.access.proofs.Patterns.{admitted-bit}
-use Rattle.access.proofs.Vectors.{default-other}
 use Rattle.access.proofs.Audits.{count-mask}
 
 -- ---- bits
@@ -174,7 +173,10 @@ default-everybody k o h = uniform-admits allOnes o (pos (suc k)) ∙ ones-shared
 
 -- but for -2 the default admits nobody else than the kernel domain and the domain itself, so with a number that is no domain it is kernel only
 pub default-only : (d z : ℤ) (o : Operation) → (d ≡ negsuc 1 → ⊥) → admitted (patternOf (defaultOf d) o) z ≡ true → (z ≡ negsuc 0) ⊎ (z ≡ d)
-default-only d z o n h = private-only d z o (rw (default-other d n) h)
+default-only (pos k) z o n h = private-only (pos k) z o h
+default-only (negsuc zero) z o n h = inl (default-kernel-only z o h)
+default-only (negsuc (suc zero)) z o n h = absurd (n refl)
+default-only (negsuc (suc (suc k))) z o n h = inl (zeros-kernel-only z (sym (uniform-admits allZeros o z) ∙ h))
 
 -- ---- audit
 
@@ -288,9 +290,9 @@ pub nobody-admitted : (p n : ℕ) → ((k : ℕ) → k < n → admitted p (pos (
 unfolding countTo lowestTo
 nobody-admitted p zero f = refl
 nobody-admitted p (suc n) f =
-    let e = nobody-admitted p n (λ k h. f k (omega arith)) in
-    let a = f n (omega arith) in
-    λ i. record { count = e i .count + cond (a i) 1 0; lowest = orElse (e i .lowest) (cond (a i) (suc n) 0) }
+    let r = nobody-admitted p n (λ k h. f k (omega arith)) in
+    let d = f n (omega arith) in
+    λ i. record { count = r i .count + cond (d i) 1 0; lowest = orElse (r i .lowest) (cond (d i) (suc n) 0) }
 
 pub audit-nobody : (p n : ℕ) → n ≤ maxDomains → p % 2 ^ n ≡ 0 → admissionsOf p n ≡ record { count = 0; lowest = 0 }
 audit-nobody p n h z = nobody-admitted p n (λ k l. bit-clear-denies p k (omega arith) (zero-bit p n k l z))
