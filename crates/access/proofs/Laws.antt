@@ -70,11 +70,11 @@ zero-bit p n k h e = sym (low-bit p n k h) ∙ rw (e, zero-div)
 -- "numbered from 1": a number up to the limit is itself; 0, a number above the limit and one below zero are 0
 pub ordinal-itself : (k n : ℕ) → k ≤ n → ordinalOf (pos k) n ≡ k
 unfolding ordinalOf
-ordinal-itself k n h = rw (le-leb k n h)
+ordinal-itself k n h = ap (λ (b : Bool). cond b k 0) (le-leb k n h)
 
 pub ordinal-above : (k n : ℕ) → n < k → ordinalOf (pos k) n ≡ 0
 unfolding ordinalOf
-ordinal-above k n h = rw (lt-leb k n h)
+ordinal-above k n h = ap (λ (b : Bool). cond b k 0) (lt-leb k n h)
 
 pub ordinal-below : (k n : ℕ) → ordinalOf (negsuc k) n ≡ 0
 unfolding ordinalOf
