@@ -1,15 +1,16 @@
 -- Document 01's sentences as laws of the definitions: each shuts wrong definitions out. Assumes nothing.
 use Prim.Native.Nat.{ℕ, zero, suc, _+_, _-_, _^_, _/_, _%_, _≤_, _<_}
 use native.Mathlib.Omega.{arith}
-use native.Mathlib.Nat.{add-zero, zero-div, div-one, div-self, pow-suc}
+use native.Mathlib.Nat.{add-zero, zero-div, div-one, div-self, mod-lt, eq-or-lt-of-le, pow-suc}
 use native.Mathlib.Numerals.{one-add, add-one}
 use mathlib.Core.Path.{_≡_, refl, sym, ap, _∙_}
 use mathlib.Core.Bool.{Bool, true, false, cond, _&&_}
-use mathlib.Core.Logic.{_⊎_, inl, inr}
+use mathlib.Core.Logic.{_⊎_, inl, inr, ⊎-elim}
 use lib.IntN.{ℤ, pos, negsuc, negℤ}
 use lib.Dec.{eqb, ltb}
 use lib.Pow.{pow-pos, shr-shr, field, mod-mod-pow}
-use borrow.Author.Tests.{lt-ltb, le-leb, lt-leb, ltb-true, ltb-false, eqb-true}
+use lib.Count.{ones}
+use borrow.Author.Tests.{lt-ltb, le-leb, lt-leb, eq-eqb, ne-eqb, ltb-true, ltb-false, eqb-true}
 use Rattle.itron.specs.Limits.{maxDomains}
 use Rattle.access.specs.declared.vector.Vector.{Vector}
 use Rattle.access.specs.declared.vector.Choice.the-variants.{Default, Given}
@@ -17,18 +18,20 @@ use Rattle.access.specs.declared.vector.Operation.{Operation}
 use Rattle.access.specs.declared.vector.Operation.the-variants.{Normal1, Normal2, Management, Reference}
 use Rattle.access.specs.declared.audit.Admissions.{Admissions}
 use Rattle.access.specs.declared.audit.AuditReport.{AuditReport}
+use Rattle.access.specs.Domains.{ordinalOf}
 use Rattle.access.specs.Patterns.{allZeros, allOnes, admitted}
 use Rattle.access.specs.Vectors.{patternOf, uniform, privateOf, defaultOf, resolved}
 use Rattle.access.specs.Audits.{countTo, orElse, lowestTo, admissionsOf, noAdmissions, auditOf}
 use Rattle.access.proofs.Patterns.{admitted-bit}
+use Rattle.access.proofs.Audits.{count-mask}
 
 -- ---- bits
 never : false ≡ true → ⊥
 never h = let e : _≡_ {A = ℕ} 0 1 = cc in omega arith
 
-both : (a b : Bool) → a && b ≡ true → b ≡ true
-both true b h = h
-both false b h = absurd (never h)
+first : (a b : Bool) → a && b ≡ true → a ≡ true
+first true b h = refl
+first false b h = h
 
 half : (p k : ℕ) → p / 2 ^ suc k ≡ p / 2 / 2 ^ k
 half p k = rw (← one-add k) (sym (shr-shr p 1 k))
@@ -58,6 +61,25 @@ low-bit p (suc n) (suc k) h =
     let e : p % 2 ^ suc n / 2 ≡ p / 2 % 2 ^ n = rw (← add-one n) (field p n 1) in
     rw (half (p % 2 ^ suc n) k, half p k, e) (low-bit (p / 2) n k (omega arith))
 
+-- every bit below n of a number that ends in n zeros is clear
+zero-bit : (p n k : ℕ) → k < n → p % 2 ^ n ≡ 0 → p / 2 ^ k % 2 ≡ 0
+zero-bit p n k h e = sym (low-bit p n k h) ∙ rw (e, zero-div)
+
+-- ---- numbers
+
+-- "numbered from 1": a number up to the limit is itself; 0, a number above the limit and one below zero are 0
+pub ordinal-itself : (k n : ℕ) → k ≤ n → ordinalOf (pos k) n ≡ k
+unfolding ordinalOf
+ordinal-itself k n h = ap (λ (b : Bool). cond b k 0) (le-leb k n h)
+
+pub ordinal-above : (k n : ℕ) → n < k → ordinalOf (pos k) n ≡ 0
+unfolding ordinalOf
+ordinal-above k n h = ap (λ (b : Bool). cond b k 0) (lt-leb k n h)
+
+pub ordinal-below : (k n : ℕ) → ordinalOf (negsuc k) n ≡ 0
+unfolding ordinalOf
+ordinal-below k n = refl
+
 -- ---- patterns
 
 -- "The kernel domain is always admitted, whatever the pattern"
@@ -65,36 +87,45 @@ pub kernel-always : (p : ℕ) → admitted p (negsuc 0) ≡ true
 unfolding admitted
 kernel-always p = refl
 
+-- "Bit d-1 admits domain d", in every pattern, whatever its other bits
+pub bit-set-admits : (p k : ℕ) → k < maxDomains → p / 2 ^ k % 2 ≡ 1 → admitted p (pos (suc k)) ≡ true
+bit-set-admits p k h e = admitted-bit p k h ∙ eq-eqb (p / 2 ^ k % 2) 1 e
+
+pub bit-clear-denies : (p k : ℕ) → k < maxDomains → p / 2 ^ k % 2 ≡ 0 → admitted p (pos (suc k)) ≡ false
+bit-clear-denies p k h e = admitted-bit p k h ∙ ne-eqb (p / 2 ^ k % 2) 1 (λ f. omega arith)
+
+-- no pattern admits anybody but the kernel domain and the domains 1 to 32
+pub only-domains : (p : ℕ) (z : ℤ) → admitted p z ≡ true → (z ≡ negsuc 0) ⊎ ((k : ℕ) × (z ≡ pos (suc k)) × (k < maxDomains))
+unfolding admitted
+only-domains p (negsuc zero) h = inl refl
+only-domains p (negsuc (suc k)) h = absurd (never h)
+only-domains p (pos zero) h = absurd (never h)
+only-domains p (pos (suc k)) h = inr (k, refl, ltb-true k maxDomains (first (ltb k maxDomains) _ h))
+
 -- "All zeros is kernel only"
 pub zeros-kernel-only : (z : ℤ) → admitted allZeros z ≡ true → z ≡ negsuc 0
-unfolding admitted
-zeros-kernel-only (negsuc zero) h = refl
-zeros-kernel-only (negsuc (suc k)) h = absurd (never h)
-zeros-kernel-only (pos zero) h = absurd (never h)
-zeros-kernel-only (pos (suc k)) h =
-    let e = both (ltb k maxDomains) _ h in
-    absurd (never (rw zero-div at e))
+zeros-kernel-only z h = ⊎-elim (λ e. e) (λ (k, e, l). absurd (never (sym (bit-clear-denies allZeros k l (rw zero-div)) ∙ rw e at h))) (only-domains allZeros z h)
 
 -- "all ones is shared"
 pub ones-shared : (k : ℕ) → k < maxDomains → admitted allOnes (pos (suc k)) ≡ true
-ones-shared k h = admitted-bit allOnes k h ∙ ap (λ (b : ℕ). eqb b 1) (ones-bit k maxDomains h)
+ones-shared k h = bit-set-admits allOnes k h (ones-bit k maxDomains h)
 
--- "Bit d-1 admits domain d", and nobody else but the kernel domain
+-- a pattern of one bit admits its domain, and nobody else but the kernel domain
 pub bit-admits : (k : ℕ) → k < maxDomains → admitted (2 ^ k) (pos (suc k)) ≡ true
-bit-admits k h = admitted-bit (2 ^ k) k h ∙ rw (div-self (pow-pos k))
+bit-admits k h = bit-set-admits (2 ^ k) k h (rw (div-self (pow-pos k)))
 
 pub bit-only : (k : ℕ) (z : ℤ) → admitted (2 ^ k) z ≡ true → (z ≡ negsuc 0) ⊎ (z ≡ pos (suc k))
-unfolding admitted
-bit-only k (negsuc zero) h = inl refl
-bit-only k (negsuc (suc j)) h = absurd (never h)
-bit-only k (pos zero) h = absurd (never h)
-bit-only k (pos (suc j)) h = inr (ap (λ (i : ℕ). pos (suc i)) (power-bit j k (eqb-true _ 1 (both (ltb j maxDomains) _ h))))
+bit-only k z h = ⊎-elim inl (λ (j, e, l). inr (e ∙ ap (λ (i : ℕ). pos (suc i)) (power-bit j k (eqb-true _ 1 (sym (admitted-bit (2 ^ k) j l) ∙ rw e at h))))) (only-domains (2 ^ k) z h)
 
 -- "Bits for domains above n are accepted and admit nobody": no domain from 1 to n needs them, and there are no others
 pub above-unused : (p n k : ℕ) → n ≤ maxDomains → k < n → admitted (p % 2 ^ n) (pos (suc k)) ≡ admitted p (pos (suc k))
 above-unused p n k h l = admitted-bit (p % 2 ^ n) k (omega arith) ∙ ap (λ (b : ℕ). eqb b 1) (low-bit p n k l) ∙ sym (admitted-bit p k (omega arith))
 
 -- ---- vectors
+
+-- "normal operation 1, normal operation 2, management, reference": each has a pattern of its own
+pub own-pattern : (v : Vector) → (patternOf v Normal1 ≡ v .normal1) × (patternOf v Normal2 ≡ v .normal2) × (patternOf v Management ≡ v .management) × (patternOf v Reference ≡ v .reference)
+own-pattern v = (refl, refl, refl, refl)
 
 -- the same pattern four times judges every kind of operation alike
 pub uniform-admits : (p : ℕ) (o : Operation) (z : ℤ) → admitted (patternOf (uniform p) o) z ≡ admitted p z
@@ -118,6 +149,11 @@ private-only (pos (suc k)) z o h = go (ltb k maxDomains) (sym (uniform-admits (c
     go true e = bit-only k z e
     go false e = inl (zeros-kernel-only z e)
 
+-- all four patterns of it have that domain's bit alone
+pub private-bit : (k : ℕ) → k < maxDomains → privateOf (pos (suc k)) ≡ record { normal1 = 2 ^ k; normal2 = 2 ^ k; management = 2 ^ k; reference = 2 ^ k }
+unfolding privateOf
+private-bit k h = rw (lt-ltb k maxDomains h)
+
 -- an entry with a vector keeps it "as given"; "An entry without a vector takes the default"
 pub given-kept : (d : ℤ) (v : Vector) → resolved d (Given v) ≡ v
 given-kept d v = refl
@@ -135,6 +171,13 @@ default-private k = refl
 pub default-everybody : (k : ℕ) (o : Operation) → k < maxDomains → admitted (patternOf (defaultOf (negsuc 1)) o) (pos (suc k)) ≡ true
 default-everybody k o h = uniform-admits allOnes o (pos (suc k)) ∙ ones-shared k h
 
+-- but for -2 the default admits nobody else than the kernel domain and the domain itself, so with a number that is no domain it is kernel only
+pub default-only : (d z : ℤ) (o : Operation) → (d ≡ negsuc 1 → ⊥) → admitted (patternOf (defaultOf d) o) z ≡ true → (z ≡ negsuc 0) ⊎ (z ≡ d)
+default-only (pos k) z o n h = private-only (pos k) z o h
+default-only (negsuc zero) z o n h = inl (default-kernel-only z o h)
+default-only (negsuc (suc zero)) z o n h = absurd (n refl)
+default-only (negsuc (suc (suc k))) z o n h = inl (zeros-kernel-only z (sym (uniform-admits allZeros o z) ∙ h))
+
 -- ---- audit
 
 -- "how many user domains it admits": each admitted one counts, and no other
@@ -145,6 +188,22 @@ count-admitted p k h = rw h (add-one (countTo p k))
 pub count-denied : (p k : ℕ) → admitted p (pos (suc k)) ≡ false → countTo p (suc k) ≡ countTo p k
 unfolding countTo
 count-denied p k h = rw h (add-zero (countTo p k))
+
+-- "how many": the ones among the lowest n bits, in every pattern; bit by bit, each set one counts, and of no domain it is 0
+pub audit-count : (p n : ℕ) → n ≤ maxDomains → admissionsOf p n .count ≡ ones (p % 2 ^ n)
+audit-count p n h = sym (count-mask p n h)
+
+pub count-none : (p : ℕ) → countTo p 0 ≡ 0
+unfolding countTo
+count-none p = refl
+
+pub count-bit : (p k : ℕ) → k < maxDomains → countTo p (suc k) ≡ countTo p k + p / 2 ^ k % 2
+count-bit p k h = go (p / 2 ^ k % 2) refl (mod-lt (p / 2 ^ k) (omega arith))
+  where
+    go : (b : ℕ) → p / 2 ^ k % 2 ≡ b → b < 2 → countTo p (suc k) ≡ countTo p k + b
+    go zero e l = omega (arith, count-denied p k (bit-clear-denies p k h e))
+    go (suc zero) e l = omega (arith, count-admitted p k (bit-set-admits p k h e))
+    go (suc (suc b)) e l = absurd (omega arith)
 
 -- "how many": of n, at most n; of a shared pattern all n, and the lowest is 1
 one-most : (b : Bool) → cond b 1 0 ≤ 1
@@ -203,6 +262,16 @@ lowest-least p (suc m) k h a = go (ltb k m) refl (λ l. lowest-least p m k l a)
         let q : k ≡ m = omega (arith, ltb-false k m e) in
         rw (rw q at a, q) (most (lowestTo p m) m (λ i g. lowest-admitted p m i g .1))
 
+-- "the lowest admitted one": in every pattern the domain of the lowest set bit
+pub audit-lowest : (p n k : ℕ) → n ≤ maxDomains → k < n → p % 2 ^ k ≡ 0 → p / 2 ^ k % 2 ≡ 1 → admissionsOf p n .lowest ≡ suc k
+audit-lowest p n k h l z e = go (lowestTo p n) refl (lowest-least p n k l (bit-set-admits p k (omega arith) e))
+  where
+    go : (m : ℕ) → lowestTo p n ≡ m → (0 < m) × (m ≤ suc k) → m ≡ suc k
+    go zero f r = absurd (omega arith)
+    go (suc j) f r =
+        let below : j < k → ⊥ = λ i. never (sym (bit-clear-denies p j (omega arith) (zero-bit p k j i z)) ∙ lowest-admitted p n j f .0) in
+        ⊎-elim (λ q. q) (λ i. absurd (below (omega arith))) (eq-or-lt-of-le (r .1))
+
 -- the report depends only on who of the domains 1 to n is admitted
 pub audit-same : (p q n : ℕ) → ((k : ℕ) → k < n → admitted p (pos (suc k)) ≡ admitted q (pos (suc k))) → admissionsOf p n ≡ admissionsOf q n
 unfolding countTo lowestTo
@@ -221,9 +290,12 @@ pub nobody-admitted : (p n : ℕ) → ((k : ℕ) → k < n → admitted p (pos (
 unfolding countTo lowestTo
 nobody-admitted p zero f = refl
 nobody-admitted p (suc n) f =
-    let e = nobody-admitted p n (λ k h. f k (omega arith)) in
-    let a = f n (omega arith) in
-    λ i. record { count = e i .count + cond (a i) 1 0; lowest = orElse (e i .lowest) (cond (a i) (suc n) 0) }
+    let r = nobody-admitted p n (λ k h. f k (omega arith)) in
+    let d = f n (omega arith) in
+    λ i. record { count = r i .count + cond (d i) 1 0; lowest = orElse (r i .lowest) (cond (d i) (suc n) 0) }
+
+pub audit-nobody : (p n : ℕ) → n ≤ maxDomains → p % 2 ^ n ≡ 0 → admissionsOf p n ≡ record { count = 0; lowest = 0 }
+audit-nobody p n h z = nobody-admitted p n (λ k l. bit-clear-denies p k (omega arith) (zero-bit p n k l z))
 
 -- "takes a vector and n .. and tells for each pattern how many .. and the lowest"
 pub audit-tells : (v : Vector) (n : ℕ) → n ≤ maxDomains
