@@ -114,6 +114,10 @@ pub receiver-admitted-later : Claims (did 1 (onQueue (pos 1) (own (send polling 
 unfolding admitted
 receiver-admitted-later d = d .queues 1 .takersAllowed .0 .0 .1
 
+pub denied-taker-before : Claims (sends 1 701 ∷ did 2 (onQueue (pos 1) (own (receive polling))) ok 700 [] ∷ sends 1 700 ∷ []) (701 ∷ []) → ⊥
+unfolding admitted
+denied-taker-before d = d .queues 1 .takersAllowed .1 .0
+
 -- to a task that never called, and to one that waits elsewhere
 pub never-called : Claims (did 1 (onQueue (pos 1) (own (send polling 700))) ok 0 (released 3 700) ∷ []) [] → ⊥
 never-called d = d .queues 1 .takersAllowed .0 .0
@@ -178,6 +182,10 @@ released-twice d = d .releases .0 .0 .waited
 -- a signal that releases a task which never waited
 pub released-unasked : Claims (did 1 (onSemaphore (pos 1) (own signal)) ok 0 (released 3 0) ∷ []) [] → ⊥
 released-unasked d = d .releases .0 .0 .waited
+
+-- earlier in the list too
+pub released-unasked-before : Claims (sends 1 700 ∷ did 1 (onSemaphore (pos 1) (own signal)) ok 0 (released 3 0) ∷ []) (700 ∷ []) → ⊥
+released-unasked-before d = d .releases .1 .0 .0 .waited
 
 -- one that waits at another side of an object, and one that waits at another object
 pub released-from-another-side : Claims (did 1 (onSemaphore (pos 1) (own signal)) ok 0 (released 3 0) ∷ did 3 (onQueue (pos 1) (own (receive forever))) waiting 0 [] ∷ []) [] → ⊥
