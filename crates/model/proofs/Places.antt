@@ -1,5 +1,5 @@
 -- Which task, object and wait queue a number names (document 01, "Each kind is numbered from 1 without gaps, in the order of its entries"). Assumes nothing.
-use mathlib.Core.Path.{_≡_, refl, sym, ap, _∙_}
+use mathlib.Core.Path.{_≡_, refl, sym, ap, _∙_, subst}
 use mathlib.Core.Logic.{_≢_}
 use mathlib.Core.Bool.{Bool, true, false}
 use mathlib.Core.List.{List, [], _∷_, _++_}
@@ -12,7 +12,7 @@ use Rattle.itron.specs.Codes.{eId}
 use Rattle.model.specs.declared.Request.the-variants as Requests
 use Rattle.model.specs.declared.sem.SemaphoreRequest.the-variants as SemaphoreRequest
 use Rattle.model.specs.declared.dtq.QueueRequest.the-variants as QueueRequest
-use Rattle.model.specs.Lists.{at, put, consIf}
+use Rattle.model.specs.Lists.{at, put, consIf, All}
 use Rattle.model.specs.State.{Vector, Sem, Queue, Place, Waiter, State, noSem, noQueue, semAt, queueAt, domainAt, samePlace, no}
 use Rattle.model.specs.Waits.{waitersIn, waitersAt, standsAt}
 use Rattle.model.specs.Acts.{Act, own, refer, setVector}
@@ -51,6 +51,19 @@ module _ {A : Type 0} where
 
   pub as-many : (l : List A) (n : ℕ) (x : A) → length (put l n x) ≡ length l
   as-many l n x = length-put l n x
+
+  -- a claim about all elements is one about each, wherever it stands
+  module _ (P : A → Type 0) where
+    pub all-each : (l a b : List A) (x : A) → l ≡ a ++ (x ∷ b) → All P l → P x
+    all-each l a b x e h = go a (subst (All P) e h)
+      where
+        go : (a : List A) → All P (a ++ (x ∷ b)) → P x
+        go [] k = k .0
+        go (y ∷ a) k = go a (k .1)
+
+    pub each-all : (l : List A) → ((a b : List A) (x : A) → l ≡ a ++ (x ∷ b) → P x) → All P l
+    each-all [] f = tt
+    each-all (x ∷ l) f = (f [] l x refl, each-all l (λ a b y e. f (x ∷ a) b y (ap (λ (k : List A). x ∷ k) e)))
 
 pub task-number : (s : State) (l m : List ℤ) (d : ℤ) → s .fixed .domains ≡ l ++ (d ∷ m) → domainAt s (suc (length l)) ≡ d
 task-number s l m d h = ap (λ (k : List ℤ). at (pos 0) k (suc (length l))) h ∙ nth (pos 0) d l m
