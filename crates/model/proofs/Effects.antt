@@ -21,11 +21,11 @@ use Rattle.model.specs.Semaphores.{SemaphoreCall, signal, acquire, signa
 use Rattle.model.specs.Queues as Queues
 use Rattle.model.specs.Queues.{QueueCall, send, receive, sendBy, receiveBy}
 use Rattle.model.specs.Calls.{Op, onSemaphore, onQueue, call, step}
-use Rattle.model.proofs.Lists.{eqb-same, keep-append, keep-absent}
+use Rattle.model.proofs.Lists.{no-both, eqb-same, keep-append, Distinct, keep-absent}
 use Rattle.model.proofs.WaitQueues.{place-of, alike}
 use Rattle.model.proofs.Tests.{holds, fails, le-tells, lt-tells}
 use Rattle.model.proofs.Answers.{Passes, absent-tells, answers, with, does}
-use Rattle.model.proofs.Places.{nth}
+use Rattle.model.proofs.Places.{nth, all-each}
 
 -- ---- the waiting tasks, first to last
 -- nobody waits at a place
@@ -60,6 +60,28 @@ others-left a b e h =
     ∙ ap (λ (c : Bool). keep (isOther (e .task)) a ++ consIf (not c) e (keep (isOther (e .task)) b)) (eqb-same (e .task))
     ∙ sym (keep-append (isOther (e .task)) a b)
     ∙ keep-absent (e .task) (a ++ b) (holds (absent-tells (e .task) (a ++ b)) h)
+
+-- there is no third case where each task waits once
+pub data Found (p : Place) (ws : List Waiter) : Type 0 where
+  nobody : Nobody p ws → Found p ws
+  first : (before behind : List Waiter) (e : Waiter) → ws ≡ before ++ (e ∷ behind) → First p before behind e → Found p ws
+
+pub found : (p : Place) (ws : List Waiter) → Distinct ws → Found p ws
+found p [] d = nobody tt
+found p (y ∷ ws) d = go (standsAt p y) refl (found p ws (d .1))
+  where
+    others : All (λ (x : Waiter). y .task ≢ x .task) ws
+    others = absent-tells (y .task) ws .yes (d .0)
+
+    elsewhere : standsAt p y ≡ false → y .place ≢ p
+    elsewhere h e = no-both (ap (samePlace p) e ∙ alike p) h
+
+    go : (b : Bool) → standsAt p y ≡ b → Found p ws → Found p (y ∷ ws)
+    go true h i = first [] ws y refl (record { there = place-of p (y .place) h; ahead = tt; once = others })
+    go false h (nobody i) = nobody (elsewhere h, i)
+    go false h (first a b e q i) =
+        first (y ∷ a) b e (ap (λ (l : List Waiter). y ∷ l) q)
+        (record { there = i .there; ahead = (elsewhere h, i .ahead); once = ((λ z. all-each (λ (x : Waiter). y .task ≢ x .task) ws a b e q others (sym z)), i .once) })
 
 -- ---- the object's record
 put-nth : {A : Type 0} (l m : List A) (x y : A) → put (l ++ (x ∷ m)) (suc (length l)) y ≡ l ++ (y ∷ m)

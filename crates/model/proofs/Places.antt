@@ -3,7 +3,7 @@ use mathlib.Core.Path.{_≡_, refl, sym, ap, _∙_, subst}
 use mathlib.Core.Logic.{_≢_}
 use mathlib.Core.Bool.{Bool, true, false}
 use mathlib.Core.List.{List, [], _∷_, _++_}
-use Prim.Native.Nat.{ℕ, suc, _≤_, _<_}
+use Prim.Native.Nat.{ℕ, zero, suc, _≤_, _<_}
 use native.Mathlib.Omega.{arith}
 use lib.IntN.{ℤ, pos, negsuc}
 use lib.ListN.{length, getD}
@@ -31,6 +31,14 @@ module _ {A : Type 0} where
   pub nth : (d x : A) (l m : List A) → at d (l ++ (x ∷ m)) (suc (length l)) ≡ x
   nth d x [] m = refl
   nth d x (y ∷ l) m = nth d x l m
+
+  -- each number from 1 to how many there are names one
+  pub names-one : (l : List A) (i : ℕ) → i < length l → (a : List A) × ((x : A) × ((b : List A) × ((l ≡ a ++ (x ∷ b)) × (length a ≡ i))))
+  names-one [] i h = absurd (omega arith)
+  names-one (x ∷ l) zero h = ([], (x, (l, (refl, refl))))
+  names-one (x ∷ l) (suc i) h =
+      let k = names-one l i (omega arith) in
+      (x ∷ k .0, (k .1 .0, (k .1 .1 .0, (ap (λ (m : List A). x ∷ m) (k .1 .1 .1 .0), ap suc (k .1 .1 .1 .1)))))
 
   -- reading: the number i + 1 is the library's index i, and 0 is no number
   pub reads : (d : A) (l : List A) (i : ℕ) → at d l (suc i) ≡ getD l i d
