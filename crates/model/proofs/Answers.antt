@@ -15,7 +15,7 @@ use Rattle.access.specs.Vectors.{patternOf}
 use Rattle.itron.specs.Codes.{Err, eCtx, eId, ePar, eNoexs, eOacv, Code, ok, error}
 use Rattle.model.specs.Lists.{All}
 use Rattle.model.specs.State.{Vector, Waiter, State, semAt, queueAt, domainAt, no}
-use Rattle.model.specs.Answers.{Released, Answer, refuseIf}
+use Rattle.model.specs.Answers.{Released, Answer, Out, refuseIf}
 use Rattle.model.specs.Waits.{absent, firstTask}
 use Rattle.model.specs.Acts.{Act, operationOf, clear}
 use Rattle.model.specs.Rooms.{Room, ready, inRange, admits, vectorAt, slotsOf, check}
@@ -48,7 +48,7 @@ pub record Passes (s : State) (t : ℤ) (op : Op) : Type 0 where
   pub may : May s (no t) op
 
 -- ---- the tests tell these facts
-absent-tells : (t : ℕ) (l : List Waiter) → Tells (absent t l) (All (λ (e : Waiter). t ≢ e .task) l)
+pub absent-tells : (t : ℕ) (l : List Waiter) → Tells (absent t l) (All (λ (e : Waiter). t ≢ e .task) l)
 absent-tells t [] = record { yes = λ h. tt; no = λ h p. no-both {b = true} refl h }
 absent-tells t (e ∷ l) = and-tells (not-tells (eq-tells t (e .task))) (absent-tells t l)
 
@@ -106,9 +106,12 @@ abbrev pub with : Waiter → ℕ → List Released
 with e w = record { task = e .task; word = w } ∷ []
 
 module _ (s : State) (t : ℤ) (op : Op) where
-  answer-by : (o : Option Err) → checks s (no t) op ≡ o → step s (call t op) .answer ≡ actIf s (no t) (asks op) o .answer
+  step-by : (o : Option Err) → checks s (no t) op ≡ o → step s (call t op) ≡ actIf s (no t) (asks op) o
   unfolding step
-  answer-by o h = ap (λ (x : Option Err). actIf s (no t) (asks op) x .answer) (checks-are s (no t) op ∙ h)
+  step-by o h = ap (actIf s (no t) (asks op)) (checks-are s (no t) op ∙ h)
+
+  answer-by : (o : Option Err) → checks s (no t) op ≡ o → step s (call t op) .answer ≡ actIf s (no t) (asks op) o .answer
+  answer-by o h = ap (λ (x : Out). x .answer) (step-by o h)
 
   -- "table not closed, or caller not a registered ready task: E_CTX"
   pub ctx-when : (Ready s (no t) → ⊥) → step s (call t op) .answer ≡ refuses eCtx
@@ -136,8 +139,11 @@ module _ (s : State) (t : ℤ) (op : Op) where
   oacv-when r i h f = answer-by (some eOacv) (past-there r i h ∙ stops-at (may-tells s (no t) op) eOacv none f)
 
   -- what passes them is not refused by a check
+  pub does : Passes s t op → step s (call t op) ≡ asks op .act s (no t)
+  does p = step-by none (past-there (p .ready) (p .numbered) (p .there) ∙ passes-on (may-tells s (no t) op) eOacv none (p .may))
+
   pub acts : Passes s t op → step s (call t op) .answer ≡ asks op .act s (no t) .answer
-  acts p = answer-by none (past-there (p .ready) (p .numbered) (p .there) ∙ passes-on (may-tells s (no t) op) eOacv none (p .may))
+  acts p = ap (λ (x : Out). x .answer) (does p)
 
 -- the host's numbers below 0 name no task and no object
 pub no-such-caller : (s : State) (k : ℕ) (op : Op) → step s (call (negsuc k) op) .answer ≡ refuses eCtx

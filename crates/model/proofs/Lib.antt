@@ -28,6 +28,7 @@ pub mod Refers
 pub mod Numbers
 pub mod Replies
 pub mod Places
+pub mod Effects
 pub mod Verdict
 pub mod Merged
 pub mod Entries

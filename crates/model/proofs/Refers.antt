@@ -6,7 +6,8 @@ use lib.IntN.{ℤ}
 use Rattle.itron.specs.Codes.{Err}
 use Rattle.model.specs.State.{State, no}
 use Rattle.model.specs.Answers.{Out, replyOf, plain, codeOf}
-use Rattle.model.specs.Calls.{Op, call, asks, actIf, step}
+use Rattle.model.specs.Acts.{refer}
+use Rattle.model.specs.Calls.{Op, onSemaphore, onQueue, call, asks, actIf, step}
 use Rattle.model.proofs.Cover.{lawful}
 
 module _ (m : State) (z : ℤ) (op : Op) (h : asks op .isRefer ≡ true) where
@@ -25,3 +26,10 @@ module _ (m : State) (z : ℤ) (op : Op) (h : asks op .isRefer ≡ true) where
       go : (o : Option Err) → plain (codeOf (actIf m (no z) (asks op) o .answer .code)) 0 ≡ replyOf (actIf m (no z) (asks op) o .answer)
       go (some e) = refl
       go none = rw (lawful op .refers m (no z) h) refl
+
+-- so it is of both kinds, whatever counts as a refer
+pub semaphore-told : (m : State) (z n : ℤ) → step m (call z (onSemaphore n refer)) .state ≡ m
+semaphore-told m z n = refer-state m z (onSemaphore n refer) refl
+
+pub queue-told : (m : State) (z n : ℤ) → step m (call z (onQueue n refer)) .state ≡ m
+queue-told m z n = refer-state m z (onQueue n refer) refl

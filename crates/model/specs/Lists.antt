@@ -31,11 +31,6 @@ module _ {A : Type 0} where
   keep p [] = []
   keep p (x ∷ l) = consIf (p x) x (keep p l)
 
-  -- the list where the test holds, else nothing
-  abbrev pub only : Bool → List A → List A
-  only true l = l
-  only false l = []
-
   -- whether an element passes a test
   abbrev pub anyOf : (A → Bool) → List A → Bool
   anyOf p [] = false

@@ -1,0 +1,259 @@
+-- What a call that passes the checks answers and leaves (document 01, "Calls on an open gateway"): the whole answer and the whole state, in terms of the
+-- lists themselves. The object stands behind those of l, so its number is one more than these are; the caller is task k. Assumes nothing.
+use mathlib.Core.Path.{_≡_, refl, sym, ap, _∙_}
+use mathlib.Core.Logic.{_≢_}
+use mathlib.Core.Bool.{Bool, true, false, not}
+use mathlib.Core.List.{List, [], _∷_, _++_}
+use Prim.Native.Nat.{ℕ, suc, _≤_, _<_}
+use native.Mathlib.Omega.{arith}
+use lib.Dec.{leb, ltb}
+use lib.IntN.{pos}
+use lib.ListN.{length}
+use Rattle.itron.specs.Codes.{ok, waiting}
+use Rattle.model.specs.Lists.{at, put, consIf, keep, All}
+use Rattle.model.specs.State.{Vector, Sem, Queue, onSem, receiving, sending, Place, Waiter, Fixed, State, noSem, noQueue, samePlace}
+use Rattle.model.specs.Answers.{Answer, out}
+use Rattle.model.specs.Waits.{Patience, forever, waitersIn, standsAt, isOther, leave}
+use Rattle.model.specs.Acts.{Act, own, setVector}
+use Rattle.model.specs.Rooms.{onRecords}
+use Rattle.model.specs.Semaphores as Semaphores
+use Rattle.model.specs.Semaphores.{SemaphoreCall, signal, acquire, signalBy, acquireBy}
+use Rattle.model.specs.Queues as Queues
+use Rattle.model.specs.Queues.{QueueCall, send, receive, sendBy, receiveBy}
+use Rattle.model.specs.Calls.{Op, onSemaphore, onQueue, call, step}
+use Rattle.model.proofs.Lists.{no-both, eqb-same, keep-append, Distinct, keep-absent}
+use Rattle.model.proofs.WaitQueues.{place-of, alike}
+use Rattle.model.proofs.Tests.{holds, fails, le-tells, lt-tells}
+use Rattle.model.proofs.Answers.{Passes, absent-tells, answers, with, does}
+use Rattle.model.proofs.Places.{nth, all-each}
+
+-- ---- the waiting tasks, first to last
+-- nobody waits at a place
+abbrev pub Nobody : Place → List Waiter → Type 0
+Nobody p ws = All (λ (y : Waiter). y .place ≢ p) ws
+
+-- e is the first who waits at a place, and waits once: others wait elsewhere before it, and others behind it
+pub record First (p : Place) (before behind : List Waiter) (e : Waiter) : Type 0 where
+  pub there : e .place ≡ p
+  pub ahead : Nobody p before
+  pub once : All (λ (y : Waiter). e .task ≢ y .task) (before ++ behind)
+
+nobody-found : (p : Place) (ws : List Waiter) → Nobody p ws → waitersIn ws p ≡ []
+nobody-found p [] h = refl
+nobody-found p (y ∷ ws) h = go (standsAt p y) refl (nobody-found p ws (h .1))
+  where
+    go : (b : Bool) → standsAt p y ≡ b → waitersIn ws p ≡ [] → consIf b y (waitersIn ws p) ≡ []
+    go true q i = absurd (h .0 (place-of p (y .place) q))
+    go false q i = i
+
+first-found : (p : Place) (a b : List Waiter) (e : Waiter) → e .place ≡ p → Nobody p a → waitersIn (a ++ (e ∷ b)) p ≡ e ∷ waitersIn b p
+first-found p [] b e q h = ap (λ (c : Bool). consIf c e (waitersIn b p)) (ap (samePlace p) q ∙ alike p)
+first-found p (y ∷ a) b e q h = go (standsAt p y) refl (first-found p a b e q (h .1))
+  where
+    go : (c : Bool) → standsAt p y ≡ c → waitersIn (a ++ (e ∷ b)) p ≡ e ∷ waitersIn b p → consIf c y (waitersIn (a ++ (e ∷ b)) p) ≡ e ∷ waitersIn b p
+    go true z i = absurd (h .0 (place-of p (y .place) z))
+    go false z i = i
+
+others-left : (a b : List Waiter) (e : Waiter) → All (λ (y : Waiter). e .task ≢ y .task) (a ++ b) → leave (e .task) (a ++ (e ∷ b)) ≡ a ++ b
+others-left a b e h =
+    keep-append (isOther (e .task)) a (e ∷ b)
+    ∙ ap (λ (c : Bool). keep (isOther (e .task)) a ++ consIf (not c) e (keep (isOther (e .task)) b)) (eqb-same (e .task))
+    ∙ sym (keep-append (isOther (e .task)) a b)
+    ∙ keep-absent (e .task) (a ++ b) (holds (absent-tells (e .task) (a ++ b)) h)
+
+-- there is no third case where each task waits once
+pub data Found (p : Place) (ws : List Waiter) : Type 0 where
+  nobody : Nobody p ws → Found p ws
+  first : (before behind : List Waiter) (e : Waiter) → ws ≡ before ++ (e ∷ behind) → First p before behind e → Found p ws
+
+pub found : (p : Place) (ws : List Waiter) → Distinct ws → Found p ws
+found p [] d = nobody tt
+found p (y ∷ ws) d = go (standsAt p y) refl (found p ws (d .1))
+  where
+    others : All (λ (x : Waiter). y .task ≢ x .task) ws
+    others = absent-tells (y .task) ws .yes (d .0)
+
+    elsewhere : standsAt p y ≡ false → y .place ≢ p
+    elsewhere h e = no-both (ap (samePlace p) e ∙ alike p) h
+
+    go : (b : Bool) → standsAt p y ≡ b → Found p ws → Found p (y ∷ ws)
+    go true h i = first [] ws y refl (record { there = place-of p (y .place) h; ahead = tt; once = others })
+    go false h (nobody i) = nobody (elsewhere h, i)
+    go false h (first a b e q i) =
+        first (y ∷ a) b e (ap (λ (l : List Waiter). y ∷ l) q)
+        (record { there = i .there; ahead = (elsewhere h, i .ahead); once = ((λ z. all-each (λ (x : Waiter). y .task ≢ x .task) ws a b e q others (sym z)), i .once) })
+
+-- ---- the object's record
+put-nth : {A : Type 0} (l m : List A) (x y : A) → put (l ++ (x ∷ m)) (suc (length l)) y ≡ l ++ (y ∷ m)
+put-nth [] m x y = refl
+put-nth (z ∷ l) m x y = ap (λ (k : List _). z ∷ k) (put-nth l m x y)
+
+-- a record made from the one that stood there
+put-made : {A : Type 0} (d : A) (g : A → A) (l m : List A) (x : A) → put (l ++ (x ∷ m)) (suc (length l)) (g (at d (l ++ (x ∷ m)) (suc (length l)))) ≡ l ++ (g x ∷ m)
+put-made d g l m x = ap (λ (y : _). put (l ++ (x ∷ m)) (suc (length l)) (g y)) (nth d x l m) ∙ put-nth l m x (g x)
+
+-- ---- semaphores
+module _ (f : Fixed) (qs : List Queue) (k : ℕ) (l m : List Sem) where
+  -- the place of the semaphore, a call on it, and a state in which these tasks wait and its record is y
+  abbrev pub atSem : Place
+  atSem = record { side = onSem; number = suc (length l) }
+
+  abbrev pub askSem : Act SemaphoreCall → Op
+  askSem a = onSemaphore (pos (suc (length l))) a
+
+  abbrev pub semState : List Waiter → Sem → State
+  semState ws y = record { fixed = f; waits = ws; sems = l ++ (y ∷ m); queues = qs }
+
+  abbrev pub withCount : Sem → ℕ → Sem
+  withCount y c = record { domain = y .domain; attribute = y .attribute; max = y .max; count = c; vector = y .vector }
+
+  module _ (x : Sem) where
+    -- "With waiters, the first is released with E_OK and the count stays"
+    pub signal-wakes : (a b : List Waiter) (e : Waiter) → First atSem a b e → Passes (semState (a ++ (e ∷ b)) x) (pos k) (askSem (own signal))
+        → step (semState (a ++ (e ∷ b)) x) (call (pos k) (askSem (own signal))) ≡ record { answer = answers ok 0 (with e 0); state = semState (a ++ b) x }
+    signal-wakes a b e h p =
+        let s = semState (a ++ (e ∷ b)) x in
+        let w = first-found atSem a b e (h .there) (h .ahead) in
+        does s (pos k) (askSem (own signal)) p
+        ∙ (λ i. onRecords Semaphores.room s (signalBy (s .waits) (s .sems) (suc (length l)) (w i) (leb (at noSem (s .sems) (suc (length l)) .max) (at noSem (s .sems) (suc (length l)) .count))))
+        ∙ ap (λ (ws : List Waiter). record { answer = answers ok 0 (with e 0); state = semState ws x }) (others-left a b e (h .once))
+
+    -- "Otherwise count plus 1"
+    pub signal-raises : (ws : List Waiter) → Nobody atSem ws → x .count < x .max → Passes (semState ws x) (pos k) (askSem (own signal))
+        → step (semState ws x) (call (pos k) (askSem (own signal))) ≡ record { answer = answers ok 0 []; state = semState ws (withCount x (suc (x .count))) }
+    signal-raises ws h r p =
+        let s = semState ws x in
+        let w = nobody-found atSem ws h in
+        let y = nth noSem x l m in
+        let b = fails (le-tells (x .max) (x .count)) (λ z. omega arith) in
+        does s (pos k) (askSem (own signal)) p
+        ∙ (λ i. onRecords Semaphores.room s (signalBy ws (s .sems) (suc (length l)) (w i) (leb (y i .max) (y i .count))))
+        ∙ ap (λ (t : Bool). onRecords Semaphores.room s (signalBy ws (s .sems) (suc (length l)) [] t)) b
+        ∙ ap (λ (xs : List Sem). record { answer = answers ok 0 []; state = record { fixed = f; waits = ws; sems = xs; queues = qs } }) (put-made noSem (λ (y : Sem). withCount y (suc (y .count))) l m x)
+
+    -- "Count above 0: minus 1, E_OK"
+    pub acquire-takes : (ws : List Waiter) (a : Patience) (c : ℕ) → x .count ≡ suc c → Passes (semState ws x) (pos k) (askSem (own (acquire a)))
+        → step (semState ws x) (call (pos k) (askSem (own (acquire a)))) ≡ record { answer = answers ok 0 []; state = semState ws (withCount x c) }
+    acquire-takes ws a c h p =
+        let s = semState ws x in
+        let y = nth noSem x l m in
+        does s (pos k) (askSem (own (acquire a))) p
+        ∙ ap (λ (j : ℕ). onRecords Semaphores.room s (acquireBy ws (s .sems) k (suc (length l)) a j)) (ap (λ (z : Sem). z .count) y ∙ h)
+        ∙ ap (λ (xs : List Sem). record { answer = answers ok 0 []; state = record { fixed = f; waits = ws; sems = xs; queues = qs } }) (put-made noSem (λ (z : Sem). withCount z c) l m x)
+
+    -- "wait puts the caller last in the queue and answers "waiting""
+    pub wait-joins : (ws : List Waiter) → x .count ≡ 0 → Passes (semState ws x) (pos k) (askSem (own (acquire forever)))
+        → step (semState ws x) (call (pos k) (askSem (own (acquire forever)))) ≡ record { answer = answers waiting 0 []; state = semState (ws ++ (record { task = k; place = atSem; word = 0 } ∷ [])) x }
+    wait-joins ws h p =
+        let s = semState ws x in
+        let y = nth noSem x l m in
+        does s (pos k) (askSem (own (acquire forever))) p
+        ∙ ap (λ (j : ℕ). onRecords Semaphores.room s (acquireBy ws (s .sems) k (suc (length l)) forever j)) (ap (λ (z : Sem). z .count) y ∙ h)
+
+    -- "Set-vector. All four patterns are replaced. Tasks that already wait stay"
+    pub semaphore-set : (ws : List Waiter) (v : Vector) → Passes (semState ws x) (pos k) (askSem (setVector v))
+        → step (semState ws x) (call (pos k) (askSem (setVector v)))
+        ≡ record { answer = answers ok 0 []; state = semState ws (record { domain = x .domain; attribute = x .attribute; max = x .max; count = x .count; vector = v }) }
+    semaphore-set ws v p =
+        does (semState ws x) (pos k) (askSem (setVector v)) p
+        ∙ ap (λ (xs : List Sem). record { answer = answers ok 0 []; state = record { fixed = f; waits = ws; sems = xs; queues = qs } })
+        (put-made noSem (λ (z : Sem). record { domain = z .domain; attribute = z .attribute; max = z .max; count = z .count; vector = v }) l m x)
+
+-- ---- data queues
+module _ (f : Fixed) (xs : List Sem) (k : ℕ) (l m : List Queue) where
+  -- where a task waits to receive from the queue and where to send to it, a call on it, and a state in which these tasks wait and its record is y
+  abbrev pub toReceive : Place
+  toReceive = record { side = receiving; number = suc (length l) }
+
+  abbrev pub toSend : Place
+  toSend = record { side = sending; number = suc (length l) }
+
+  abbrev pub askQueue : Act QueueCall → Op
+  askQueue a = onQueue (pos (suc (length l))) a
+
+  abbrev pub queueState : List Waiter → Queue → State
+  queueState ws y = record { fixed = f; waits = ws; sems = xs; queues = l ++ (y ∷ m) }
+
+  abbrev pub withBuffer : Queue → List ℕ → Queue
+  withBuffer y b = record { domain = y .domain; attribute = y .attribute; capacity = y .capacity; buffer = b; vector = y .vector }
+
+  module _ (x : Queue) where
+    -- the queue with another buffer, in an answer and the state after it
+    stored : (g : Queue → List ℕ) (ws : List Waiter) (a : Answer)
+        → out a (record { fixed = f; waits = ws; sems = xs; queues = put (l ++ (x ∷ m)) (suc (length l)) (withBuffer (at noQueue (l ++ (x ∷ m)) (suc (length l))) (g (at noQueue (l ++ (x ∷ m)) (suc (length l))))) })
+        ≡ out a (queueState ws (withBuffer x (g x)))
+    stored g ws a = ap (λ (ys : List Queue). out a (record { fixed = f; waits = ws; sems = xs; queues = ys })) (put-made noQueue (λ (y : Queue). withBuffer y (g y)) l m x)
+
+    module _ (a : Patience) (w : ℕ) where
+      -- "With a waiting receiver, the first gets the word and is released"
+      pub send-hands : (c b : List Waiter) (e : Waiter) → First toReceive c b e → Passes (queueState (c ++ (e ∷ b)) x) (pos k) (askQueue (own (send a w)))
+          → step (queueState (c ++ (e ∷ b)) x) (call (pos k) (askQueue (own (send a w)))) ≡ record { answer = answers ok 0 (with e w); state = queueState (c ++ b) x }
+      send-hands c b e h p =
+          let s = queueState (c ++ (e ∷ b)) x in
+          let i = first-found toReceive c b e (h .there) (h .ahead) in
+          does s (pos k) (askQueue (own (send a w))) p
+          ∙ (λ j. onRecords Queues.room s (sendBy (s .waits) (s .queues) k (suc (length l)) w a (i j) (Queues.hasRoom (at noQueue (s .queues) (suc (length l))))))
+          ∙ ap (λ (ws : List Waiter). record { answer = answers ok 0 (with e w); state = queueState ws x }) (others-left c b e (h .once))
+
+      by-room : (ws : List Waiter) (t : Bool) → Nobody toReceive ws → ltb (length (x .buffer)) (x .capacity) ≡ t → Passes (queueState ws x) (pos k) (askQueue (own (send a w)))
+          → step (queueState ws x) (call (pos k) (askQueue (own (send a w)))) ≡ onRecords Queues.room (queueState ws x) (sendBy ws (l ++ (x ∷ m)) k (suc (length l)) w a [] t)
+      by-room ws t h r p =
+          let s = queueState ws x in
+          let i = nobody-found toReceive ws h in
+          let y = nth noQueue x l m in
+          does s (pos k) (askQueue (own (send a w))) p
+          ∙ (λ j. onRecords Queues.room s (sendBy ws (s .queues) k (suc (length l)) w a (i j) (ltb (length (y j .buffer)) (y j .capacity))))
+          ∙ ap (λ (b : Bool). onRecords Queues.room s (sendBy ws (s .queues) k (suc (length l)) w a [] b)) r
+
+      -- "Otherwise, with room, the word goes last into the buffer"
+      pub send-buffers : (ws : List Waiter) → Nobody toReceive ws → length (x .buffer) < x .capacity → Passes (queueState ws x) (pos k) (askQueue (own (send a w)))
+          → step (queueState ws x) (call (pos k) (askQueue (own (send a w)))) ≡ record { answer = answers ok 0 []; state = queueState ws (withBuffer x (x .buffer ++ (w ∷ []))) }
+      send-buffers ws h r p = by-room ws true h (holds (lt-tells (length (x .buffer)) (x .capacity)) r) p ∙ stored (λ (y : Queue). y .buffer ++ (w ∷ [])) ws (answers ok 0 [])
+
+    -- "send waits with its word, last"
+    pub send-joins : (ws : List Waiter) (w : ℕ) → Nobody toReceive ws → x .capacity ≤ length (x .buffer) → Passes (queueState ws x) (pos k) (askQueue (own (send forever w)))
+        → step (queueState ws x) (call (pos k) (askQueue (own (send forever w)))) ≡ record { answer = answers waiting 0 []; state = queueState (ws ++ (record { task = k; place = toSend; word = w } ∷ [])) x }
+    send-joins ws w h r p = by-room forever w ws false h (fails (lt-tells (length (x .buffer)) (x .capacity)) (λ z. omega arith)) p
+
+    module _ (a : Patience) where
+      by-content : (ws : List Waiter) (b : List ℕ) (c : List Waiter) → x .buffer ≡ b → waitersIn ws toSend ≡ c → Passes (queueState ws x) (pos k) (askQueue (own (receive a)))
+          → step (queueState ws x) (call (pos k) (askQueue (own (receive a)))) ≡ onRecords Queues.room (queueState ws x) (receiveBy ws (l ++ (x ∷ m)) k (suc (length l)) a b c)
+      by-content ws b c h r p =
+          let s = queueState ws x in
+          let y = ap (λ (q : Queue). q .buffer) (nth noQueue x l m) ∙ h in
+          does s (pos k) (askQueue (own (receive a))) p ∙ (λ j. onRecords Queues.room s (receiveBy ws (s .queues) k (suc (length l)) a (y j) (r j)))
+
+      -- "A buffered word: the oldest is handed out"
+      pub receive-takes : (ws : List Waiter) (w : ℕ) (b : List ℕ) → x .buffer ≡ w ∷ b → Nobody toSend ws → Passes (queueState ws x) (pos k) (askQueue (own (receive a)))
+          → step (queueState ws x) (call (pos k) (askQueue (own (receive a)))) ≡ record { answer = answers ok w []; state = queueState ws (withBuffer x b) }
+      receive-takes ws w b h r p = by-content ws (w ∷ b) [] h (nobody-found toSend ws r) p ∙ stored (λ (y : Queue). b) ws (answers ok w [])
+
+      module _ (c d : List Waiter) (e : Waiter) (h : First toSend c d e) (p : Passes (queueState (c ++ (e ∷ d)) x) (pos k) (askQueue (own (receive a)))) where
+        -- "if a sender waits, the first sender's word moves to the buffer's end and it is released"
+        pub receive-refills : (w : ℕ) (b : List ℕ) → x .buffer ≡ w ∷ b
+            → step (queueState (c ++ (e ∷ d)) x) (call (pos k) (askQueue (own (receive a)))) ≡ record { answer = answers ok w (with e 0); state = queueState (c ++ d) (withBuffer x (b ++ (e .word ∷ []))) }
+        receive-refills w b r =
+            by-content (c ++ (e ∷ d)) (w ∷ b) (e ∷ waitersIn d toSend) r (first-found toSend c d e (h .there) (h .ahead)) p
+            ∙ stored (λ (y : Queue). b ++ (e .word ∷ [])) (leave (e .task) (c ++ (e ∷ d))) (answers ok w (with e 0))
+            ∙ ap (λ (ws : List Waiter). record { answer = answers ok w (with e 0); state = queueState ws (withBuffer x (b ++ (e .word ∷ []))) }) (others-left c d e (h .once))
+
+        -- "Empty buffer with a waiting sender (capacity 0): its word is handed out and it is released"
+        pub receive-passes : x .buffer ≡ []
+            → step (queueState (c ++ (e ∷ d)) x) (call (pos k) (askQueue (own (receive a)))) ≡ record { answer = answers ok (e .word) (with e 0); state = queueState (c ++ d) x }
+        receive-passes r =
+            by-content (c ++ (e ∷ d)) [] (e ∷ waitersIn d toSend) r (first-found toSend c d e (h .there) (h .ahead)) p
+            ∙ ap (λ (ws : List Waiter). record { answer = answers ok (e .word) (with e 0); state = queueState ws x }) (others-left c d e (h .once))
+
+    -- "receive waits, last"
+    pub receive-joins : (ws : List Waiter) → x .buffer ≡ [] → Nobody toSend ws → Passes (queueState ws x) (pos k) (askQueue (own (receive forever)))
+        → step (queueState ws x) (call (pos k) (askQueue (own (receive forever)))) ≡ record { answer = answers waiting 0 []; state = queueState (ws ++ (record { task = k; place = toReceive; word = 0 } ∷ [])) x }
+    receive-joins ws h r p = by-content forever ws [] [] h (nobody-found toSend ws r) p
+
+    -- "Set-vector. All four patterns are replaced. Tasks that already wait stay"
+    pub queue-set : (ws : List Waiter) (v : Vector) → Passes (queueState ws x) (pos k) (askQueue (setVector v))
+        → step (queueState ws x) (call (pos k) (askQueue (setVector v)))
+        ≡ record { answer = answers ok 0 []; state = queueState ws (record { domain = x .domain; attribute = x .attribute; capacity = x .capacity; buffer = x .buffer; vector = v }) }
+    queue-set ws v p =
+        does (queueState ws x) (pos k) (askQueue (setVector v)) p
+        ∙ ap (λ (ys : List Queue). record { answer = answers ok 0 []; state = record { fixed = f; waits = ws; sems = xs; queues = ys } })
+        (put-made noQueue (λ (y : Queue). record { domain = y .domain; attribute = y .attribute; capacity = y .capacity; buffer = y .buffer; vector = v }) l m x)
