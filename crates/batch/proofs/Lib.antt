@@ -2,3 +2,4 @@ pub mod Words
 pub mod Performs
 pub mod Loops
 pub mod Apart
+pub mod Decodes
