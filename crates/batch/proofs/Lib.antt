@@ -3,3 +3,4 @@ pub mod Performs
 pub mod Loops
 pub mod Apart
 pub mod Decodes
+pub mod Places

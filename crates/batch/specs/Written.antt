@@ -1,10 +1,14 @@
--- Calls written as words of 32 bits: what a host writes, said apart from how a list is read (Encoding). Definitions only.
+-- Words of 32 bits as a host has them, said apart from Encoding: those of a call, which it writes, and those of an answer, which it reads. Definitions only.
 use Prim.Native.Nat.{ℕ, _<_, _^_}
+use mathlib.Core.Path.{_≡_}
 use mathlib.Core.List.{List, [], _∷_}
 use lib.IntN.{ℤ, pos, negsuc}
+use lib.ListN.{length, getD}
 use mir.Syntax.{w32}
-use mir.Val.{ofZ}
+use mir.Val.{ofZ, toZ}
+use Rattle.itron.specs.Codes.{Code, ok, waiting, error, numberOf}
 use Rattle.model.specs.State.{Vector}
+use Rattle.model.specs.Answers.{Answer, releasedOf}
 use Rattle.model.specs.Acts.{own, refer, setVector}
 use Rattle.model.specs.declared.sem.SemaphoreCall.the-variants.{Signal as signal, Acquire as acquire}
 use Rattle.model.specs.declared.dtq.QueueCall.the-variants.{Send as send, Receive as receive}
@@ -60,3 +64,24 @@ pub record Fits (q : Numbers) : Type 0 where
   pub normal2 : Unsigned (q .vector .normal2)
   pub management : Unsigned (q .vector .management)
   pub reference : Unsigned (q .vector .reference)
+
+-- ---- what the words of an answer say, by their places
+-- E_OK is 0 and "waiting" is 1; of a refusal the number is in two's complement
+abbrev pub CodeSaid : Code → ℕ → Type 0
+CodeSaid ok n = n ≡ 0
+CodeSaid waiting n = n ≡ 1
+CodeSaid (error e) n = toZ w32 n ≡ numberOf e
+
+pub record Says (ws : List ℕ) (a : Answer) : Type 0 where
+  pub long : length ws ≡ 11
+  pub code : CodeSaid (a .code) (getD ws 0 0)
+  pub word : getD ws 1 0 ≡ a .word
+  pub releasedTask : getD ws 2 0 ≡ releasedOf (a .released) .task
+  pub releasedWord : getD ws 3 0 ≡ releasedOf (a .released) .word
+  pub first : getD ws 4 0 ≡ a .info .first
+  pub second : getD ws 5 0 ≡ a .info .second
+  pub amount : getD ws 6 0 ≡ a .info .amount
+  pub normal1 : getD ws 7 0 ≡ a .info .vector .normal1
+  pub normal2 : getD ws 8 0 ≡ a .info .vector .normal2
+  pub management : getD ws 9 0 ≡ a .info .vector .management
+  pub reference : getD ws 10 0 ≡ a .info .vector .reference
