@@ -100,6 +100,12 @@ all-read (q ∷ qs) f behind =
     let y = ap (λ (l : List ℕ). itemsIn l (length qs)) a ∙ all-read qs (f .1) (wordsOf q ++ behind) in
     λ i. x i ∷ y i
 
+-- what is no call is left out
+pub left-out : (newer older : List (Option Call)) → callsIn (newer ++ (none ∷ older)) ≡ callsIn (newer ++ older)
+left-out [] older = refl
+left-out (none ∷ newer) older = left-out newer older
+left-out (some c ∷ newer) older = ap (λ (l : List Call). c ∷ l) (left-out newer older)
+
 -- ---- how many items are made: as many as are held, of which a rest of fewer than eight words is one, and have room for their answers
 pub whole-groups : (qs : List Numbers) → groups (length (words wordsOf qs)) ≡ length qs
 whole-groups qs = omega (arith, words-length qs)

@@ -2,17 +2,19 @@
 use Prim.Native.Nat.{ℕ, suc, _+_, _*_, _≤_, _<_}
 use native.Mathlib.Nat.{eq-or-lt-of-le}
 use native.Mathlib.Omega.{arith}
-use mathlib.Core.Path.{_≡_, refl, sym, ap, _∙_}
-use mathlib.Core.List.{List, _++_}
+use mathlib.Core.Path.{_≡_, refl, sym, ap, _∙_, subst}
+use mathlib.Core.List.{List, _∷_, _++_}
+use mathlib.Core.Option.{none, some}
 use mathlib.Core.Logic.{_⊎_, inl, inr}
 use lib.IntN.{negsuc}
-use lib.ListN.{length, getD, take, drop, replicate, length-drop}
+use lib.ListN.{length, take, drop, replicate, length-drop}
 use lib.Seq.{take-all, drop-at, drop-append-le, take-append-le}
 use mir.Syntax.{w32}
-use mir.Val.{toZ}
+use mir.Val.{ofZ}
 use Rattle.itron.specs.Codes.{Code, ok, waiting, error, eRsatr, ePar, eId, eCtx, eMacv, eOacv, eNomem, eNoid, eObj, eNoexs, eQovr, eTmout}
 use Rattle.model.specs.State as Model
 use Rattle.model.specs.Answers.{Answer, outcomeOf}
+use Rattle.model.specs.Calls.{Call, step}
 use Rattle.model.specs.History.{after}
 use Rattle.kernel.specs.declared.state.State.{State}
 use Rattle.kernel.specs.View.{viewOf}
@@ -58,11 +60,8 @@ says a =
     }
 
 -- what is no call is answered -10 and ten zeros
-pub refused-code : toZ w32 (getD noCall 0 0) ≡ negsuc 9
-refused-code = refl
-
-pub refused-rest : drop 1 noCall ≡ replicate 10 0
-refused-rest = refl
+pub no-call-said : noCall ≡ ofZ w32 (negsuc 9) ∷ replicate 10 0
+no-call-said = refl
 
 -- ---- eleven words behind others, and before others
 last-row : (a r : List ℕ) (n : ℕ) → length a ≡ n → length r ≡ 11 → take 11 (drop n (a ++ r)) ≡ r
@@ -89,13 +88,21 @@ module _ (m : Model.State) (ws : List ℕ) where
           ∙ ap answerOf (sym e)
       go (inr i) h = earlier-row told (answerOf n) (k * 11) (omega (arith, answers-length m ws n)) ∙ h i
 
-pub answer-in-slice : {s : State} {calls before behind : List ℕ} {r : Ran} → Runs s calls before behind r → (k : ℕ) → k < r .answered
-    → take 11 (drop (k * 11) behind) ≡ answerTo (after (viewOf s) (callsIn (itemsIn calls k))) (itemAt calls k)
-answer-in-slice {s} {calls} {before} {behind} {r} h k l =
-    let m = viewOf s in
-    let n = answerable (length calls) (length before) in
-    let e = h .answered in
-    let told = answersOf m (itemsIn calls n) in
-    ap (λ (x : List ℕ). take 11 (drop (k * 11) x)) (h .answers)
-    ∙ earlier-row told (drop (r .answered * 11) before) (k * 11) (omega (arith, answers-length m calls n))
-    ∙ answer-at m calls n k (omega arith)
+module _ {s : State} {calls before behind : List ℕ} {r : Ran} (h : Runs s calls before behind r) (k : ℕ) (l : k < r .answered) where
+  row-at : take 11 (drop (k * 11) behind) ≡ answerOf (viewOf s) calls k
+  row-at =
+      let m = viewOf s in
+      let n = answerable (length calls) (length before) in
+      let e = h .answered in
+      let told = answersOf m (itemsIn calls n) in
+      ap (λ (x : List ℕ). take 11 (drop (k * 11) x)) (h .answers)
+      ∙ earlier-row told (drop (r .answered * 11) before) (k * 11) (omega (arith, answers-length m calls n))
+      ∙ answer-at m calls n k (omega arith)
+
+  pub call-answered : (c : Call) → itemAt calls k ≡ some c → Says (take 11 (drop (k * 11) behind)) (step (after (viewOf s) (callsIn (itemsIn calls k))) c .answer)
+  call-answered c e =
+      let m = after (viewOf s) (callsIn (itemsIn calls k)) in
+      subst (λ (x : List ℕ). Says x (step m c .answer)) (sym (row-at ∙ ap (answerTo m) e)) (says (step m c .answer))
+
+  pub no-call-answered : itemAt calls k ≡ none → take 11 (drop (k * 11) behind) ≡ ofZ w32 (negsuc 9) ∷ replicate 10 0
+  no-call-answered e = row-at ∙ ap (answerTo (after (viewOf s) (callsIn (itemsIn calls k)))) e ∙ no-call-said
