@@ -80,6 +80,7 @@ pub means-nothing : (q : Numbers) → (q .function ≡ 0) ⊎ (11 < q .function)
 means-nothing q (inl e) = rw e
 means-nothing q (inr l) = beyond (meanings q) (q .function) l
 
+-- so a call's eight words are that call at any place, and fewer than eight are none
 pub decodes : (w : ℕ) (v : Vector) (c : Call) → Fits (numbersOf w v c) → (before behind : List ℕ) (k : ℕ) → length before ≡ k * 8
     → itemAt (before ++ (wordsOf (numbersOf w v c) ++ behind)) k ≡ some c
 decodes w v c f before behind k e = reads before behind k e (numbersOf w v c) f ∙ means w v c
