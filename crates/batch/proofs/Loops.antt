@@ -23,10 +23,10 @@ use Rattle.batch.specs.Made.{answerTo, next, Performs}
 use Rattle.batch.specs.Runs.{callsMade, Runs}
 
 -- the words of items made from a state of the model on
-abbrev answersOf : Model.State → List (Option Call) → List ℕ
+abbrev pub answersOf : Model.State → List (Option Call) → List ℕ
 answersOf m l = answersIn l (history m (callsIn l))
 
-answers-next : (m : Model.State) (x : Option Call) (l : List (Option Call)) → answersOf m (x ∷ l) ≡ answersOf m l ++ answerTo (after m (callsIn l)) x
+pub answers-next : (m : Model.State) (x : Option Call) (l : List (Option Call)) → answersOf m (x ∷ l) ≡ answersOf m l ++ answerTo (after m (callsIn l)) x
 unfolding history
 answers-next m none l = refl
 answers-next m (some c) l = refl
@@ -46,7 +46,7 @@ unfolding after
 after-next m none l = refl
 after-next m (some c) l = refl
 
-answer-length : (m : Model.State) (x : Option Call) → length (answerTo m x) ≡ answerWords
+pub answer-length : (m : Model.State) (x : Option Call) → length (answerTo m x) ≡ answerWords
 answer-length m none = refl
 answer-length m (some c) = refl
 

@@ -53,7 +53,7 @@ outside (suc n) x u = go (outside n x (u .0))
     go (inl e) = inl e
     go (inr l) = inr (omega (arith, u .1))
 
-beyond : {A : Type 0} (l : List A) (n : ℕ) → length l < n → nth l n ≡ none
+pub beyond : {A : Type 0} (l : List A) (n : ℕ) → length l < n → nth l n ≡ none
 beyond l zero h = refl
 beyond [] (suc n) h = refl
 beyond (x ∷ l) (suc zero) h = absurd (omega arith)

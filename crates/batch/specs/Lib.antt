@@ -1,3 +1,4 @@
 pub mod Encoding
+pub mod Written
 pub mod Made
 pub mod Runs
