@@ -37,7 +37,7 @@ pub record Endings (s : State) (P : ℕ → Asks → Out → Type 0) : Type 0 wh
   pub gives : (t : ℕ) (x : Asks) (s′ : State) (w : ℕ) → Alike s (s .waits) s′ → Vacant (s .waits) (x .serves ok) → P t x (out (say ok w []) s′)
   pub wakes : (t : ℕ) (x : Asks) (s′ : State) (p : Place) (e : Waiter) (l : List Waiter) (w h : ℕ) → Alike s (leave (e .task) (s .waits)) s′ → x .serves ok ≡ some p → waitersAt s p ≡ e ∷ l
       → P t x (out (say ok w (freed e h)) s′)
-  pub waits : (t : ℕ) (x : Asks) (e : Waiter) → x .check s t ≡ none → Calls s t → e .task ≡ t → Plain e × Registered (length (s .sems)) (length (s .queues)) e → x .begins t ≡ e ∷ [] → Vacant (s .waits) (x .serves waiting)
+  pub waits : (t : ℕ) (x : Asks) (e : Waiter) → x .check s t ≡ none → Calls s t → e .task ≡ t → Plain e × Registered s e → x .begins t ≡ e ∷ [] → Vacant (s .waits) (x .serves waiting)
       → P t x (out (say waiting 0 []) (setWaits s (join e (s .waits))))
 
 -- ---- what holds of every call, whatever it asks of whom
@@ -71,7 +71,7 @@ module _ {C R : Type 0} {r : Room C R} (l : RoomLaws r) (n : ℤ) where
     end-own c h (Ended.wakes xs p e m w v k y z f) = es .wakes t (onObject r n (own c)) _ p e m w v (in-room (leave (e .task) (s .waits)) xs) z f
     end-own c h (Ended.waits e z m b v) =
         let p = passed r s t (no n) (own c) h in
-        let g = subst (All (λ (y : Waiter). Plain y × Registered (length (s .sems)) (length (s .queues)) y)) b (l .plain s t (no n) (p .numbered) (p .there) c) in
+        let g = subst (All (λ (y : Waiter). Plain y × Registered s y)) b (l .plain s t (no n) (p .numbered) (p .there) c) in
         subst (λ (s′ : State). P t (onObject r n (own c)) (out (say waiting 0 []) s′)) (sym (l .same-with s (join e (s .waits)))) (es .waits t (onObject r n (own c)) e h (p .calls) z (g .0) b v)
 
     end-room : (a : Act C) → check r s t (no n) a ≡ none → P t (onObject r n a) (onObject r n a .act s t)

@@ -241,7 +241,7 @@ pub begins-mine : (t q : ℕ) (c : QueueCall) → All (λ (e : Waiter). isAt tag
 begins-mine t q (send p w) = (is-at tag q (place sending q) refl refl, tt)
 begins-mine t q (receive p) = (is-at tag q (place receiving q) refl refl, tt)
 
-pub begins-plain : (s : State) (t q : ℕ) → q ≢ 0 → q ≤ length (s .queues) → (c : QueueCall) → All (λ (e : Waiter). Plain e × Registered (length (s .sems)) (length (s .queues)) e) (begins t q c)
+pub begins-plain : (s : State) (t q : ℕ) → q ≢ 0 → q ≤ length (s .queues) → (c : QueueCall) → All (λ (e : Waiter). Plain e × Registered s e) (begins t q c)
 begins-plain s t q h r (send p w) = (((h, tt), r), tt)
 begins-plain s t q h r (receive p) = (((h, refl), r), tt)
 

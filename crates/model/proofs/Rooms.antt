@@ -74,7 +74,7 @@ pub record RoomLaws {C R : Type 0} (r : Room C R) : Type 0 where
   pub ends : (ws : List Waiter) (xs : List R) (t n : ℕ) (c : C) → Ends R ws xs t (isAt tag n) (SameBut (r .nothing) entry n xs) (r .begins t n c) (r .serves n c) (r .does ws xs t n c)
   -- the wait that a call begins is on its object, which is registered if the checks found it, and has a word only if it sends; a refused call serves nobody
   pub begun : (t n : ℕ) (c : C) → All (λ (e : Waiter). isAt tag n (e .place) ≡ true) (r .begins t n c)
-  pub plain : (s : State) (t n : ℕ) → n ≢ 0 → n ≤ length (r .records s) → (c : C) → All (λ (e : Waiter). Plain e × Registered (length (s .sems)) (length (s .queues)) e) (r .begins t n c)
+  pub plain : (s : State) (t n : ℕ) → n ≢ 0 → n ≤ length (r .records s) → (c : C) → All (λ (e : Waiter). Plain e × Registered s e) (r .begins t n c)
   pub unserved : (n : ℕ) (e : Err) (c : C) → r .serves n c (error e) ≡ none
   -- a refer tells of tasks that wait
   pub told-first : (ws : List Waiter) (xs : List R) (n m : ℕ) → ((p : Place) → firstTask (waitersIn ws p) ≤ m) → r .told ws xs n .first ≤ m

@@ -112,7 +112,7 @@ pub begins-mine : (t i : ℕ) (c : SemaphoreCall) → All (λ (e : Waiter). isAt
 begins-mine t i signal = tt
 begins-mine t i (acquire p) = (is-at tag i (place onSem i) refl refl, tt)
 
-pub begins-plain : (s : State) (t i : ℕ) → i ≢ 0 → i ≤ length (s .sems) → (c : SemaphoreCall) → All (λ (e : Waiter). Plain e × Registered (length (s .sems)) (length (s .queues)) e) (begins t i c)
+pub begins-plain : (s : State) (t i : ℕ) → i ≢ 0 → i ≤ length (s .sems) → (c : SemaphoreCall) → All (λ (e : Waiter). Plain e × Registered s e) (begins t i c)
 begins-plain s t i h r signal = tt
 begins-plain s t i h r (acquire p) = (((h, refl), r), tt)
 

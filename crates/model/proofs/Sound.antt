@@ -1,17 +1,16 @@
 -- The condition that all states have in common is kept by every call
-use mathlib.Core.Path.{_≡_, sym, ap, _∙_, subst, subst₂}
+use mathlib.Core.Path.{_≡_, sym, ap, _∙_, subst}
 use mathlib.Core.Bool.{false}
-use mathlib.Core.List.{[]}
-use Prim.Native.Nat.{ℕ}
-use lib.ListN.{length}
+use mathlib.Core.List.{List, [], _∷_}
+use Prim.Native.Nat.{ℕ, _≤_}
 use Rattle.itron.specs.Codes.{eCtx}
 use Rattle.model.specs.Lists.{All}
-use Rattle.model.specs.State.{Fixed, State, setFixed, no}
+use Rattle.model.specs.State.{Side, onSem, receiving, sending, Waiter, Fixed, State, setFixed, no}
 use Rattle.model.specs.Answers.{Out, refuse}
 use Rattle.model.specs.Waits.{isOther}
 use Rattle.model.specs.Rooms.{Asks}
 use Rattle.model.specs.Calls.{Call, asks, actIf, step}
-use Rattle.model.specs.Conditions.{WaitsFit, RegionsFit, Fit, EntriesFit, Registered, UnitFits, NoWords, Sound}
+use Rattle.model.specs.Conditions.{WaitsFit, RegionsFit, Fit, EntriesFit, sideCount, Registered, UnitFits, NoWords, Sound}
 use Rattle.model.proofs.Lists.{all-keep, all-snoc}
 use Rattle.model.proofs.Fits.{waits-leave, waits-join}
 use Rattle.model.proofs.SemaphoreClaims as Semaphores
@@ -52,22 +51,31 @@ entries-step s c f = subst (λ (x : Fixed). EntriesFit (setFixed (step s c .stat
 
 -- ---- who waits, waits at a registered object
 abbrev RegisteredLaw : State → ℕ → Asks → Out → Type 0
-RegisteredLaw s t x o = All (Registered (length (s .sems)) (length (s .queues))) (o .state .waits)
+RegisteredLaw s t x o = All (Registered s) (o .state .waits)
 
-registered-ends : (s : State) → All (Registered (length (s .sems)) (length (s .queues))) (s .waits) → Endings s (RegisteredLaw s)
+registered-ends : (s : State) → All (Registered s) (s .waits) → Endings s (RegisteredLaw s)
 registered-ends s f = record {
   refused = λ t x e o. f;
   tells = λ t x r o. f;
   gives = λ t x s′ w k v. rw (k .waits) f;
-  wakes = λ t x s′ p e l w h k v g. rw (k .waits) (all-keep (Registered (length (s .sems)) (length (s .queues))) (isOther (e .task)) (s .waits) f);
-  waits = λ t x e h c z p b v. all-snoc (Registered (length (s .sems)) (length (s .queues))) (s .waits) e f (p .1);
+  wakes = λ t x s′ p e l w h k v g. rw (k .waits) (all-keep (Registered s) (isOther (e .task)) (s .waits) f);
+  waits = λ t x e h c z p b v. all-snoc (Registered s) (s .waits) e f (p .1);
 }
 
-registered-step : (s : State) (c : Call) → All (Registered (length (s .sems)) (length (s .queues))) (s .waits) → All (Registered (length (step s c .state .sems)) (length (step s c .state .queues))) (step s c .state .waits)
-registered-step s c f = subst₂ (λ (m n : ℕ). All (Registered m n) (step s c .state .waits)) (sym (Semaphores.entries-law s c .1)) (sym (Queues.entries-law s c .1))
-    (ends s (RegisteredLaw s) (registered-ends s f) c)
+-- a call registers no object and removes none
+side-count : (s : State) (c : Call) (d : Side) → sideCount (step s c .state) d ≡ sideCount s d
+side-count s c onSem = Semaphores.entries-law s c .1
+side-count s c receiving = Queues.entries-law s c .1
+side-count s c sending = Queues.entries-law s c .1
 
--- an open table answers no call
+registered-step : (s : State) (c : Call) → All (Registered s) (s .waits) → All (Registered (step s c .state)) (step s c .state .waits)
+registered-step s c f = go (step s c .state .waits) (ends s (RegisteredLaw s) (registered-ends s f) c)
+  where
+    go : (l : List Waiter) → All (Registered s) l → All (Registered (step s c .state)) l
+    go [] h = tt
+    go (e ∷ l) h = (subst (λ (n : ℕ). e .place .number ≤ n) (sym (side-count s c (e .place .side))) (h .0), go l (h .1))
+
+-- ---- an open table answers no call
 pub open-refuses : (s : State) (c : Call) → s .fixed .closed ≡ false → step s c ≡ refuse s eCtx
 unfolding step
 open-refuses s c h = ap (actIf s (no (c .caller)) (asks (c .op))) (lawful (c .op) .closed-first s (no (c .caller)) h)

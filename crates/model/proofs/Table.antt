@@ -201,14 +201,14 @@ sound-fresh (pos n) unit = go (leb n maxDomains && unitOk unit) refl
 
 pub sound-close : (s : State) → Sound s → Sound (close s .state)
 unfolding close
-sound-close s k = go (s .fixed .closed)
+sound-close s k = go (s .fixed .closed) refl
   where
-    go : (b : Bool) → Sound (closeBy b s .state)
-    go true = k
-    go false = record {
+    go : (b : Bool) → s .fixed .closed ≡ b → Sound (closeBy b s .state)
+    go true o = k
+    go false o = record {
       fit = record { waits = k .fit .waits; sems = k .fit .sems; queues = k .fit .queues; regions = k .fit .regions };
       entries = record { domains = k .entries .domains; tasks = k .entries .tasks; sems = k .entries .sems; queues = k .entries .queues; regions = k .entries .regions };
-      registered = k .registered;
+      registered = rw (k .quiet o) tt;
       within = k .within;
       spent = k .spent;
       fine = k .fine;

@@ -113,14 +113,14 @@ pub record EntriesFit (s : State) : Type 0 where
   pub regions : All (RegionEntryFits (s .fixed .count)) (s .fixed .regions)
 
 -- ---- who waits, waits at a registered object
--- at how many objects a task can wait on a side, of so many semaphores and queues
-abbrev pub sideCount : ℕ → ℕ → Side → ℕ
-sideCount sems queues onSem = sems
-sideCount sems queues receiving = queues
-sideCount sems queues sending = queues
+-- how many objects there are at which a task can wait on a side
+abbrev pub sideCount : State → Side → ℕ
+sideCount s onSem = length (s .sems)
+sideCount s receiving = length (s .queues)
+sideCount s sending = length (s .queues)
 
-abbrev pub Registered : ℕ → ℕ → Waiter → Type 0
-Registered sems queues e = e .place .number ≤ sideCount sems queues (e .place .side)
+abbrev pub Registered : State → Waiter → Type 0
+Registered s e = e .place .number ≤ sideCount s (e .place .side)
 
 -- ---- a semaphore's count is at most its max; who waits on one finds its count at 0
 abbrev pub Within : State → Type 0
@@ -155,7 +155,7 @@ pub record QueueOk (v : QView) : Type 0 where
 pub record Sound (s : State) : Type 0 where
   pub fit : Fit s
   pub entries : EntriesFit s
-  pub registered : All (Registered (length (s .sems)) (length (s .queues))) (s .waits)
+  pub registered : All (Registered s) (s .waits)
   pub within : Within s
   pub spent : (i : ℕ) → Spent s i
   pub fine : (q : ℕ) → QueueOk (qviewOf s q)
