@@ -1,5 +1,5 @@
 -- Demand 3 and taking turns hold of every run of the program. Assumes nothing.
-use Prim.Native.Nat.{ℕ, zero, suc, _^_, _%_, _≤_}
+use Prim.Native.Nat.{ℕ, _^_, _%_, _≤_}
 use mathlib.Core.Path.{_≡_, refl, sym, ap, _∙_, subst}
 use mathlib.Core.Bool.{Bool, true, false, _&&_}
 use mathlib.Core.List.{List, [], _∷_, _++_, map}
@@ -10,9 +10,8 @@ use lib.ListN.{length, drop}
 use Rattle.access.specs.Patterns.{admitted}
 use Rattle.itron.specs.Codes.{Err}
 use Rattle.itron.specs.Limits.{maxDomains}
-use Rattle.model.specs.Lists.{All, at}
 use Rattle.model.specs.State as Model
-use Rattle.model.specs.State.{Queue, Place, Waiter, noQueue, domainAt}
+use Rattle.model.specs.State.{Place, Waiter, noQueue, domainAt}
 use Rattle.model.specs.Answers.{done}
 use Rattle.model.specs.Waits.{waitersAt}
 use Rattle.model.specs.Table.{Entry, task, sem, queue, region, fresh, freshBy, enter, enterBy, add, checkEntry, close, closeBy, shut}
@@ -25,6 +24,7 @@ use Rattle.model.specs.Demand3.{Demand3, JustClosed}
 use Rattle.model.specs.Turns.{serves, tasksOf, InTurn}
 use Rattle.model.specs.declared.Released.{Released}
 use Rattle.model.specs.Answers as Answers
+use Rattle.model.proofs.Lists.{all-any}
 use Rattle.model.proofs.Refers.{refer-state}
 use Rattle.model.proofs.Table.{sound-fresh, sound-enter}
 use Rattle.model.proofs.Answers.{Ready}
@@ -76,12 +76,6 @@ idle : {s : State} → Built s → Idle (viewOf s)
 idle (begun n unit r g) = subst (λ (m : Model.State). Idle m) (sym (g .seen)) (idle-fresh n unit)
 idle (entered s b i r g) = subst (λ (m : Model.State). Idle m) (sym (g .seen)) (idle-enter (viewOf s) i (idle b))
 
-buffer-of : (l : List Queue) (q : ℕ) → All NoWords l → at noQueue l q .buffer ≡ []
-buffer-of l zero k = refl
-buffer-of [] (suc q) k = refl
-buffer-of (x ∷ l) (suc zero) k = k .0
-buffer-of (x ∷ l) (suc (suc q)) k = buffer-of l (suc q) (k .1)
-
 -- a table that was built closes with E_OK
 pub closes : {s : State} → Built s → close (viewOf s) ≡ done (shut (viewOf s))
 unfolding close
@@ -90,7 +84,7 @@ closes {s} b = ap (λ (c : Bool). closeBy c (viewOf s)) (idle b .isOpen)
 -- so it is with a table just closed
 pub idle-closed : (s : Model.State) → Idle s → JustClosed (close s .state)
 unfolding close
-idle-closed s k = subst (λ (c : Bool). JustClosed (closeBy c s .state)) (sym (k .isOpen)) (record { noWaits = k .sound .quiet (k .isOpen); noWords = λ q. buffer-of (s .queues) q (k .sound .empty (k .isOpen)) })
+idle-closed s k = subst (λ (c : Bool). JustClosed (closeBy c s .state)) (sym (k .isOpen)) (record { noWaits = k .sound .quiet (k .isOpen); noWords = λ q. all-any NoWords noQueue refl (s .queues) q (k .sound .empty (k .isOpen)) })
 
 pub just-closed : {s : State} {r : Entered} → Built s → Enters s (close (viewOf s)) r → JustClosed (viewOf (r .state))
 just-closed {s} b g = subst (λ (m : Model.State). JustClosed m) (sym (g .seen)) (idle-closed (viewOf s) (idle b))

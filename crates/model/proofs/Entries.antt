@@ -24,7 +24,7 @@ use Rattle.model.specs.Table.{Entry, task, sem, queue, region, owns, own
 use Rattle.model.proofs.Tests.{Tells, holds, fails, le-tells, lt-tells, eq-tells, always-tells, never-tells, and-tells, or-tells, not-tells, passes-on, stops-at}
 use Rattle.model.proofs.Units.{IsUnit, unit-tells, region-numbers-tells}
 
--- ---- what the checks ask; whose an entry may be and which attribute a region may have stands in Conditions
+-- ---- what the checks ask; whose an entry may be and a region's attributes are in Conditions
 -- "1 <= max <= 65,535 and 0 <= start <= max"; "region size at least 1 and base + size at most 2^32", both multiples of the unit
 abbrev pub Counts : ℕ → ℕ → Type 0
 Counts start max = ((1 ≤ max) × (max ≤ maxCount)) × (start ≤ max)

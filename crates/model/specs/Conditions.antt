@@ -77,8 +77,8 @@ pub record Fit (s : State) : Type 0 where
   pub queues : QueuesFit (s .queues)
   pub regions : RegionsFit (s .fixed .regions)
 
--- ---- what was entered ("Building the table", checks 3 to 5)
--- "domain not -1, not -2 and not 1 to n, or -2 for a task"
+-- ---- what was entered: n, and what checks 3 to 5 let in (document 01, "Building the table")
+-- whose an entry may be ("domain not -1, not -2 and not 1 to n, or -2 for a task: E_ID")
 abbrev pub TaskOwner : ℕ → ℤ → Type 0
 TaskOwner n (pos d) = (d ≢ 0) × (d ≤ n)
 TaskOwner n (negsuc zero) = Unit
@@ -90,21 +90,23 @@ Owner n (negsuc zero) = Unit
 Owner n (negsuc (suc zero)) = Unit
 Owner n (negsuc (suc (suc k))) = ⊥
 
--- "region attribute bits other than 1 (no-write) and 4 (execute)"
+-- the attributes of a region ("region attribute bits other than 1 (no-write) and 4 (execute): E_RSATR")
 abbrev pub RegionAttribute : ℕ → Type 0
 RegionAttribute a = (((a ≡ 0) ⊎ (a ≡ 1)) ⊎ (a ≡ 4)) ⊎ (a ≡ 5)
 
--- of each record its owner, its attribute, and the numbers of which nothing else here speaks
+-- "semaphore needs 1 <= max <= 65,535"; its count is in Within
 abbrev pub SemEntryFits : ℕ → Sem → Type 0
 SemEntryFits n x = Owner n (x .domain) × (x .attribute ≡ 0) × (1 ≤ x .max) × (x .max ≤ maxCount)
 
+-- queue capacity 0 to its limit; the total is in QueuesFit
 abbrev pub QueueEntryFits : ℕ → Queue → Type 0
 QueueEntryFits n q = Owner n (q .domain) × (q .attribute ≡ 0) × (q .capacity ≤ maxCapacity)
 
+-- its numbers are in RegionsFit and UnitFits
 abbrev pub RegionEntryFits : ℕ → Region → Type 0
 RegionEntryFits n r = Owner n (r .domain) × RegionAttribute (r .attribute)
 
--- "n from 0 to 32", and every entry is as its checks ask
+-- "n from 0 to 32"; owner, attribute and numbers of every entry
 pub record EntriesFit (s : State) : Type 0 where
   pub domains : s .fixed .count ≤ maxDomains
   pub tasks : All (TaskOwner (s .fixed .count)) (s .fixed .domains)
