@@ -1,5 +1,5 @@
 -- Demand 3 and taking turns hold of every run of the program. Assumes nothing.
-use Prim.Native.Nat.{ℕ, zero, suc, _≤_}
+use Prim.Native.Nat.{ℕ, _^_, _%_, _≤_}
 use mathlib.Core.Path.{_≡_, refl, sym, ap, _∙_, subst}
 use mathlib.Core.Bool.{Bool, true, false, _&&_}
 use mathlib.Core.List.{List, [], _∷_, _++_, map}
@@ -7,25 +7,28 @@ use mathlib.Core.Option.{Option, none, some}
 use lib.IntN.{ℤ, pos, negsuc}
 use lib.Dec.{leb}
 use lib.ListN.{length, drop}
+use Rattle.access.specs.Patterns.{admitted}
 use Rattle.itron.specs.Codes.{Err}
-use Rattle.itron.specs.Limits.{maxDomains, minUnit}
-use Rattle.model.specs.Lists.{All, at}
+use Rattle.itron.specs.Limits.{maxDomains}
 use Rattle.model.specs.State as Model
-use Rattle.model.specs.State.{Queue, Place, Waiter, noQueue}
+use Rattle.model.specs.State.{Place, Waiter, noQueue, domainAt}
 use Rattle.model.specs.Answers.{done}
 use Rattle.model.specs.Waits.{waitersAt}
-use Rattle.model.specs.Table.{Entry, task, sem, queue, region, fresh, freshBy, emptyState, enter, enterBy, add, checkEntry, close, closeBy, shut}
+use Rattle.model.specs.Table.{Entry, task, sem, queue, region, fresh, freshBy, enter, enterBy, add, checkEntry, close, closeBy, shut}
 use Rattle.model.specs.Units.{unitOk}
 use Rattle.model.specs.Calls.{Call, step}
 use Rattle.model.specs.Lists.{total}
 use Rattle.model.specs.History.{event, after, history}
+use Rattle.model.specs.Conditions.{NoWords, Sound}
 use Rattle.model.specs.Demand3.{Demand3, JustClosed}
 use Rattle.model.specs.Turns.{serves, tasksOf, InTurn}
 use Rattle.model.specs.declared.Released.{Released}
 use Rattle.model.specs.Answers as Answers
-use Rattle.model.proofs.Lists.{all-snoc}
+use Rattle.model.proofs.Lists.{all-any}
 use Rattle.model.proofs.Refers.{refer-state}
-use Rattle.model.proofs.Owners.{Owners, owners-fresh, owners-enter, owners-close, owners-step}
+use Rattle.model.proofs.Table.{sound-fresh, sound-enter}
+use Rattle.model.proofs.Answers.{Ready}
+use Rattle.model.proofs.Owners.{above-nobody}
 use Rattle.model.proofs.Demand3.{demand3}
 use Rattle.model.proofs.Turns.{in-turn}
 use Rattle.kernel.specs.declared.state.State.{State}
@@ -38,47 +41,40 @@ use Rattle.kernel.specs.Promises.{Enters, Does}
 use Rattle.laws.specs.Runs.{Built, begun, entered, Said, saidBy, saidIn, Ran, start, calls, refers}
 use Rattle.laws.specs.Claims.{Whole, TakesTurns}
 
--- ---- before the closing nobody waits and nothing is buffered
+-- ---- before the closing nobody waits and nothing is buffered: the table is open, and the condition says the rest
 pub record Idle (s : Model.State) : Type 0 where
   pub isOpen : s .fixed .closed ≡ false
-  pub noWaits : s .waits ≡ []
-  pub noWords : All (λ (q : Queue). q .buffer ≡ []) (s .queues)
+  pub sound : Sound s
 
-idle-add : (s : Model.State) (i : Entry) → Idle s → Idle (add s i)
-idle-add s (task d) k = record { isOpen = k .isOpen; noWaits = k .noWaits; noWords = k .noWords }
-idle-add s (sem d a b m v) k = record { isOpen = k .isOpen; noWaits = k .noWaits; noWords = k .noWords }
-idle-add s (queue d a c v) k = record { isOpen = k .isOpen; noWaits = k .noWaits; noWords = all-snoc (λ (q : Queue). q .buffer ≡ []) (s .queues) _ (k .noWords) refl }
-idle-add s (region d a b z v) k = record { isOpen = k .isOpen; noWaits = k .noWaits; noWords = k .noWords }
+open-add : (s : Model.State) (i : Entry) → s .fixed .closed ≡ false → add s i .fixed .closed ≡ false
+open-add s (task d) h = h
+open-add s (sem d a b m v) h = h
+open-add s (queue d a c v) h = h
+open-add s (region d a b z v) h = h
 
 pub idle-enter : (s : Model.State) (i : Entry) → Idle s → Idle (enter s i .state)
 unfolding enter
-idle-enter s i k = go (checkEntry s i)
+idle-enter s i k = record { isOpen = go (checkEntry s i); sound = sound-enter s i (k .sound) }
   where
-    go : (o : Option Err) → Idle (enterBy s i o .state)
-    go (some e) = k
-    go none = idle-add s i k
+    go : (o : Option Err) → enterBy s i o .state .fixed .closed ≡ false
+    go (some e) = k .isOpen
+    go none = open-add s i (k .isOpen)
 
-idle-empty : (n unit : ℕ) → Idle (emptyState n unit)
-idle-empty n unit = record { isOpen = refl; noWaits = refl; noWords = tt }
+open-fresh : (n : ℤ) (unit : ℕ) → fresh n unit .state .fixed .closed ≡ false
+unfolding fresh
+open-fresh (negsuc k) unit = refl
+open-fresh (pos n) unit = go (leb n maxDomains && unitOk unit)
+  where
+    go : (b : Bool) → freshBy b n unit .state .fixed .closed ≡ false
+    go true = refl
+    go false = refl
 
 pub idle-fresh : (n : ℤ) (unit : ℕ) → Idle (fresh n unit .state)
-unfolding fresh
-idle-fresh (negsuc k) unit = idle-empty 0 minUnit
-idle-fresh (pos n) unit = go (leb n maxDomains && unitOk unit)
-  where
-    go : (b : Bool) → Idle (freshBy b n unit .state)
-    go true = idle-empty n unit
-    go false = idle-empty 0 minUnit
+idle-fresh n unit = record { isOpen = open-fresh n unit; sound = sound-fresh n unit }
 
 idle : {s : State} → Built s → Idle (viewOf s)
 idle (begun n unit r g) = subst (λ (m : Model.State). Idle m) (sym (g .seen)) (idle-fresh n unit)
 idle (entered s b i r g) = subst (λ (m : Model.State). Idle m) (sym (g .seen)) (idle-enter (viewOf s) i (idle b))
-
-buffer-of : (l : List Queue) (q : ℕ) → All (λ (x : Queue). x .buffer ≡ []) l → at noQueue l q .buffer ≡ []
-buffer-of l zero k = refl
-buffer-of [] (suc q) k = refl
-buffer-of (x ∷ l) (suc zero) k = k .0
-buffer-of (x ∷ l) (suc (suc q)) k = buffer-of l (suc q) (k .1)
 
 -- a table that was built closes with E_OK
 pub closes : {s : State} → Built s → close (viewOf s) ≡ done (shut (viewOf s))
@@ -88,7 +84,7 @@ closes {s} b = ap (λ (c : Bool). closeBy c (viewOf s)) (idle b .isOpen)
 -- so it is with a table just closed
 pub idle-closed : (s : Model.State) → Idle s → JustClosed (close s .state)
 unfolding close
-idle-closed s k = subst (λ (c : Bool). JustClosed (closeBy c s .state)) (sym (k .isOpen)) (record { noWaits = k .noWaits; noWords = λ q. buffer-of (s .queues) q (k .noWords) })
+idle-closed s k = subst (λ (c : Bool). JustClosed (closeBy c s .state)) (sym (k .isOpen)) (record { noWaits = k .sound .quiet (k .isOpen); noWords = λ q. all-any NoWords noQueue refl (s .queues) q (k .sound .empty (k .isOpen)) })
 
 pub just-closed : {s : State} {r : Entered} → Built s → Enters s (close (viewOf s)) r → JustClosed (viewOf (r .state))
 just-closed {s} b g = subst (λ (m : Model.State). JustClosed m) (sym (g .seen)) (idle-closed (viewOf s) (idle b))
@@ -149,18 +145,6 @@ turns {s₁} v p e ahead behind w = record { still = still; served = served }
         ∙ ap (λ (x : Model.State). Answers.releasedOf (step x c .answer .released) .task) m
         ∙ one (step (after (viewOf s₁) cs) c .answer .released) (t .served cs c n (subst (λ (x : Model.State). serves p (event x c) ≡ 1) m o))
 
--- ---- no task of a run has a domain above n, so that a pattern's bits above n admit nobody (`above-nobody`)
-pub owners-built : {s : State} → Built s → Owners (viewOf s .fixed)
-owners-built (begun n unit r g) = subst (λ (m : Model.State). Owners (m .fixed)) (sym (g .seen)) (owners-fresh n unit)
-owners-built (entered s b i r g) = subst (λ (m : Model.State). Owners (m .fixed)) (sym (g .seen)) (owners-enter (viewOf s) i (owners-built b))
-
-pub owners-closed : {s : State} {r : Entered} → Built s → Enters s (close (viewOf s)) r → Owners (viewOf (r .state) .fixed)
-owners-closed {s} b g = subst (λ (m : Model.State). Owners (m .fixed)) (sym (g .seen)) (owners-close (viewOf s) (owners-built b))
-
-pub owners-ran : {s₀ s : State} {cs : List Call} {l : List Said} → Owners (viewOf s₀ .fixed) → Ran s₀ cs s l → Owners (viewOf s .fixed)
-unfolding after
-owners-ran {s₀} {s} {cs} o h = subst (λ (m : Model.State). Owners (m .fixed)) (sym (state-of h)) (kept cs)
-  where
-    kept : (cs : List Call) → Owners (after (viewOf s₀) cs .fixed)
-    kept [] = o
-    kept (c ∷ cs) = owners-step (after (viewOf s₀) cs) c (kept cs)
+-- ---- "Bits for domains above n are accepted and admit nobody": they decide nothing for whoever can call, in any state of the program
+pub nobody-above : {s : State} → Valid s → (t p : ℕ) → Ready (viewOf s) t → admitted (p % 2 ^ (viewOf s .fixed .count)) (domainAt (viewOf s) t) ≡ admitted p (domainAt (viewOf s) t)
+nobody-above {s} v t p r = above-nobody (viewOf s) t p (v .sound) r

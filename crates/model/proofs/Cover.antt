@@ -16,8 +16,8 @@ use Rattle.model.specs.Acts.{Act, own, refer, setVector, isRefer}
 use Rattle.model.specs.Rooms.{Room, check, actOn, onRecords, setVectorOf, Asks, onObject}
 use Rattle.model.specs.Calls.{Op, onSemaphore, onQueue, Call, asks, actIf, step}
 use Rattle.model.specs.History.{event, Made, seenBy, askedIf, vectorBy}
-use Rattle.model.specs.Conditions.{Plain}
-use Rattle.model.proofs.Lists.{eq-of, ne-of, Distinct}
+use Rattle.model.specs.Conditions.{Plain, Registered}
+use Rattle.model.proofs.Lists.{eq-of, ne-of, Distinct, all-alike}
 use Rattle.model.proofs.Endings.{Vacant, SameBut, Ends}
 use Rattle.model.proofs.Endings as Ended
 use Rattle.model.proofs.Rooms.{RoomLaws, Calls, Passed, passed, Stranger, isAt, room-at, other-number, own-same, is-refer, waits-apart, stays, vectors, act-not-denied}
@@ -37,7 +37,7 @@ pub record Endings (s : State) (P : ℕ → Asks → Out → Type 0) : Type 0 wh
   pub gives : (t : ℕ) (x : Asks) (s′ : State) (w : ℕ) → Alike s (s .waits) s′ → Vacant (s .waits) (x .serves ok) → P t x (out (say ok w []) s′)
   pub wakes : (t : ℕ) (x : Asks) (s′ : State) (p : Place) (e : Waiter) (l : List Waiter) (w h : ℕ) → Alike s (leave (e .task) (s .waits)) s′ → x .serves ok ≡ some p → waitersAt s p ≡ e ∷ l
       → P t x (out (say ok w (freed e h)) s′)
-  pub waits : (t : ℕ) (x : Asks) (e : Waiter) → x .check s t ≡ none → Calls s t → e .task ≡ t → Plain e → x .begins t ≡ e ∷ [] → Vacant (s .waits) (x .serves waiting)
+  pub waits : (t : ℕ) (x : Asks) (e : Waiter) → x .check s t ≡ none → Calls s t → e .task ≡ t → Plain e × Registered s e → x .begins t ≡ e ∷ [] → Vacant (s .waits) (x .serves waiting)
       → P t x (out (say waiting 0 []) (setWaits s (join e (s .waits))))
 
 -- ---- what holds of every call, whatever it asks of whom
@@ -71,7 +71,7 @@ module _ {C R : Type 0} {r : Room C R} (l : RoomLaws r) (n : ℤ) where
     end-own c h (Ended.wakes xs p e m w v k y z f) = es .wakes t (onObject r n (own c)) _ p e m w v (in-room (leave (e .task) (s .waits)) xs) z f
     end-own c h (Ended.waits e z m b v) =
         let p = passed r s t (no n) (own c) h in
-        let g : All Plain (e ∷ []) = subst (All Plain) b (l .plain t (no n) (p .numbered) c) in
+        let g = subst (All (λ (y : Waiter). Plain y × Registered s y)) b (l .plain s t (no n) (p .numbered) (p .there) c) in
         subst (λ (s′ : State). P t (onObject r n (own c)) (out (say waiting 0 []) s′)) (sym (l .same-with s (join e (s .waits)))) (es .waits t (onObject r n (own c)) e h (p .calls) z (g .0) b v)
 
     end-room : (a : Act C) → check r s t (no n) a ≡ none → P t (onObject r n a) (onObject r n a .act s t)
@@ -181,6 +181,10 @@ module _ {C R : Type 0} (r : Room C R) (l : RoomLaws r) (askedOf : ℕ → Op �
   pub entries-stay : (c : Call) → ((i : ℕ) → l .bare (at (r .nothing) (r .records (step s c .state)) i) ≡ l .bare (at (r .nothing) (r .records s) i)) × (length (r .records (step s c .state)) ≡ length (r .records s))
   entries-stay = keeps-records (λ (xs : List R). ((i : ℕ) → l .bare (at (r .nothing) xs i) ≡ l .bare (at (r .nothing) (r .records s) i)) × (length xs ≡ length (r .records s))) ((λ i. refl), refl)
       (λ t n a p. let k = stays l (s .waits) (r .records s) t n a in (k .entries, k .count))
+
+  -- so what holds of every object by its entry alone stays
+  pub all-stay : (P : R → Type 0) → All (λ (x : R). P (l .bare x)) (r .records s) → (c : Call) → All (λ (x : R). P (l .bare x)) (r .records (step s c .state))
+  all-stay P h c = let k = entries-stay c in all-alike (λ (x : R). P (l .bare x)) (r .nothing) (r .records s) (r .records (step s c .state)) (k .1) (λ i. subst P (sym (k .0 i))) h
 
   -- ---- the vectors: that of an object is the last one set on it
   -- a refusal sets none

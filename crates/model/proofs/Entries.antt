@@ -1,6 +1,5 @@
 -- Building the table (document 01): which entry is taken and which code another gets, and what an entry or the closing changes. Plain facts only.
 use mathlib.Core.Path.{_≡_, refl, sym, ap, _∙_, subst}
-use mathlib.Core.Logic.{_≢_, _⊎_}
 use mathlib.Core.Bool.{Bool, true, false, not, _&&_}
 use mathlib.Core.List.{List, [], _∷_, _++_}
 use mathlib.Core.Option.{Option, none, some}
@@ -19,28 +18,13 @@ use Rattle.model.specs.State.{Sem, Queue, Region, State, noSem, noQueue,
 use Rattle.model.specs.Answers.{Out, refuseIf}
 use Rattle.model.specs.Queues.{wordsUsed}
 use Rattle.model.specs.Regions.{lastEnd, placeOk}
+use Rattle.model.specs.Conditions.{TaskOwner, Owner, RegionAttribute}
 use Rattle.model.specs.Units.{unitOk}
 use Rattle.model.specs.Table.{Entry, task, sem, queue, region, owns, ownsTask, Tests, testsOf, checkEntry, enterBy, enter, freshBy, fresh, closeBy, close}
 use Rattle.model.proofs.Tests.{Tells, holds, fails, le-tells, lt-tells, eq-tells, always-tells, never-tells, and-tells, or-tells, not-tells, passes-on, stops-at}
 use Rattle.model.proofs.Units.{IsUnit, unit-tells, region-numbers-tells}
 
--- ---- what the checks ask
--- "domain not -1, not -2 and not 1 to n, or -2 for a task"
-abbrev pub Owner : ℕ → ℤ → Type 0
-Owner n (pos d) = (d ≢ 0) × (d ≤ n)
-Owner n (negsuc zero) = Unit
-Owner n (negsuc (suc zero)) = Unit
-Owner n (negsuc (suc (suc k))) = ⊥
-
-abbrev pub TaskOwner : ℕ → ℤ → Type 0
-TaskOwner n (pos d) = (d ≢ 0) × (d ≤ n)
-TaskOwner n (negsuc zero) = Unit
-TaskOwner n (negsuc (suc k)) = ⊥
-
--- "semaphore and queue attributes other than 0; region attribute bits other than 1 (no-write) and 4 (execute)"
-abbrev pub RegionAttribute : ℕ → Type 0
-RegionAttribute a = (((a ≡ 0) ⊎ (a ≡ 1)) ⊎ (a ≡ 4)) ⊎ (a ≡ 5)
-
+-- ---- what the checks ask; whose an entry may be and a region's attributes are in Conditions
 -- "1 <= max <= 65,535 and 0 <= start <= max"; "region size at least 1 and base + size at most 2^32", both multiples of the unit
 abbrev pub Counts : ℕ → ℕ → Type 0
 Counts start max = ((1 ≤ max) × (max ≤ maxCount)) × (start ≤ max)
@@ -80,7 +64,7 @@ owner-tells n (negsuc zero) = always-tells
 owner-tells n (negsuc (suc zero)) = always-tells
 owner-tells n (negsuc (suc (suc k))) = never-tells
 
-pub task-owner-tells : (n : ℕ) (d : ℤ) → Tells (ownsTask n d) (TaskOwner n d)
+task-owner-tells : (n : ℕ) (d : ℤ) → Tells (ownsTask n d) (TaskOwner n d)
 task-owner-tells n (pos d) = and-tells (not-tells (eq-tells d 0)) (le-tells d n)
 task-owner-tells n (negsuc zero) = always-tells
 task-owner-tells n (negsuc (suc k)) = never-tells
@@ -105,15 +89,15 @@ used-is : (l : List Queue) → wordsUsed l ≡ capacities l
 used-is [] = refl
 used-is (q ∷ l) = ap (λ (n : ℕ). q .capacity + n) (used-is l)
 
-record Told (t : Tests) (f : Facts) : Type 0 where
-  room : Tells (t .hasRoom) (f .room)
-  owned : Tells (t .domainOk) (f .owned)
-  attribute : Tells (t .attributeOk) (f .attribute)
-  numbers : Tells (t .numbersOk) (f .numbers)
-  above : Tells (t .placeOk) (f .above)
-  memory : Tells (t .memoryOk) (f .memory)
+pub record Told (t : Tests) (f : Facts) : Type 0 where
+  pub room : Tells (t .hasRoom) (f .room)
+  pub owned : Tells (t .domainOk) (f .owned)
+  pub attribute : Tells (t .attributeOk) (f .attribute)
+  pub numbers : Tells (t .numbersOk) (f .numbers)
+  pub above : Tells (t .placeOk) (f .above)
+  pub memory : Tells (t .memoryOk) (f .memory)
 
-told : (s : State) (e : Entry) → Told (testsOf s e) (facts s e)
+pub told : (s : State) (e : Entry) → Told (testsOf s e) (facts s e)
 told s (task d) = record { room = lt-tells _ maxTasks; owned = task-owner-tells (s .fixed .count) d; attribute = always-tells; numbers = always-tells; above = always-tells; memory = always-tells }
 told s (sem d a b m v) =
     record {

@@ -12,7 +12,7 @@ use Rattle.model.specs.State.{Queue, Waiter, noQueue}
 use Rattle.model.specs.Waits.{isOther, absent}
 use Rattle.model.specs.Queues.{wordsUsed}
 use Rattle.model.specs.Conditions.{WaitsFit, QueuesFit, Known, Plain, BufferFits}
-use Rattle.model.proofs.Lists.{all-keep, all-snoc, all-put, eq-of, ne-of, Distinct, distinct-keep, distinct-snoc, keep-absent, length-put}
+use Rattle.model.proofs.Lists.{all-keep, all-snoc, all-put, all-any, eq-of, ne-of, Distinct, distinct-keep, distinct-snoc, keep-absent, length-put}
 
 -- ---- who waits is a registered task, so no more wait than there are tasks
 one-less : (t : ℕ) (l : List Waiter) → Distinct l → length l ≤ suc (length (keep (isOther t) l))
@@ -75,11 +75,5 @@ module _ {qs : List Queue} (f : QueuesFit qs) where
     buffers = all-put BufferFits qs n x (f .buffers) b;
   }
 
-  all-at : (l : List Queue) (n : ℕ) → All BufferFits l → BufferFits (at noQueue l n)
-  all-at l zero h = omega arith
-  all-at [] (suc n) h = omega arith
-  all-at (x ∷ l) (suc zero) h = h .0
-  all-at (x ∷ l) (suc (suc n)) h = all-at l (suc n) (h .1)
-
   pub buffer-fits : (n : ℕ) → BufferFits (at noQueue qs n)
-  buffer-fits n = all-at qs n (f .buffers)
+  buffer-fits n = all-any BufferFits noQueue (omega arith) qs n (f .buffers)

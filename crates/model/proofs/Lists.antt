@@ -144,8 +144,31 @@ module _ {A : Type 0} (P : A → Type 0) where
   all-put (y ∷ l) (suc zero) x h k = (k, h .1)
   all-put (y ∷ l) (suc (suc n)) x h k = (h .0, all-put l (suc n) x (h .1) k)
 
--- ---- waiting tasks
+  -- of the element with a number: one that is there, or any where it also holds of what stands for none
+  pub all-at : (d : A) (l : List A) (n : ℕ) → All P l → n ≢ 0 → n ≤ length l → P (at d l n)
+  all-at d l zero h z k = absurd (z refl)
+  all-at d [] (suc n) h z k = absurd (omega arith)
+  all-at d (x ∷ l) (suc zero) h z k = h .0
+  all-at d (x ∷ l) (suc (suc n)) h z k = all-at d l (suc n) (h .1) (λ e. omega arith) (omega arith)
 
+  pub all-any : (d : A) → P d → (l : List A) (n : ℕ) → All P l → P (at d l n)
+  all-any d z l zero h = z
+  all-any d z [] (suc n) h = z
+  all-any d z (x ∷ l) (suc zero) h = h .0
+  all-any d z (x ∷ l) (suc (suc n)) h = all-any d z l (suc n) (h .1)
+
+  -- of a list that is as long, where each element has it from the one of the same number
+  pub all-alike : (d : A) (l m : List A) → length m ≡ length l → ((i : ℕ) → P (at d l i) → P (at d m i)) → All P l → All P m
+  all-alike d [] [] e f h = tt
+  all-alike d [] (y ∷ m) e f h = absurd (omega (arith, e))
+  all-alike d (x ∷ l) [] e f h = absurd (omega (arith, e))
+  all-alike d (x ∷ l) (y ∷ m) e f h = (f 1 (h .0), all-alike d l m (omega (arith, e)) (λ i. next i) (h .1))
+    where
+      next : (i : ℕ) → P (at d l i) → P (at d m i)
+      next zero p = p
+      next (suc i) p = f (suc (suc i)) p
+
+-- ---- waiting tasks
 pub absent-keep : (p : Waiter → Bool) (t : ℕ) (l : List Waiter) → absent t l ≡ true → absent t (keep p l) ≡ true
 absent-keep p t [] h = refl
 absent-keep p t (x ∷ l) h = go (p x) (absent-keep p t l (and-right (isOther t x) (absent t l) h))

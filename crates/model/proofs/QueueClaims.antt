@@ -22,7 +22,7 @@ use Rattle.model.specs.Queues as Queues
 use Rattle.model.specs.Queues.{QueueCall, send, receive, room}
 use Rattle.model.specs.QueueClaims.{askedOf, byQueue, sent, sentIn, handed, Sender, sendIn, notTask, unreleased, waitingSends, senderOf, maySend, mayReceive, SentAllowed, began, IsReceive, Came, TakenIn, TakenAllowed, Carried}
 use Rattle.model.specs.Calls.{Op, onSemaphore, onQueue, Call, asks, step}
-use Rattle.model.specs.Conditions.{QueuesFit}
+use Rattle.model.specs.Conditions.{QueuesFit, QueueEntryFits}
 use Rattle.model.specs.History.{History, event, Made, seenBy, after, history, askedIf, ofAsked, vectorSince, vectorBy, joined, without, pending}
 use Rattle.model.specs.Demand3.{JustClosed}
 use Rattle.model.proofs.Lists.{absent-keep, all-keep, all-snoc, keep-append, keep-comm, eq-of, eqb-same, eqb-sym, and-left, and-right, no-both, Distinct}
@@ -31,7 +31,7 @@ use Rattle.model.proofs.Fits.{queues-put, buffer-fits}
 use Rattle.model.proofs.Rooms.{roomOf, is-at, Calls, Passed, passed, stranger, ok-same, accepted-same}
 use Rattle.model.proofs.Semaphores as SemaphoreRoom
 use Rattle.model.proofs.Queues.{bare, laws, cover, flows, QView, qview-eq, qviewOf, content, QueueOk, Kept, stay}
-use Rattle.model.proofs.Cover.{Whose, mine, foreign, sees, keeps-records, entries-stay, vector-law, Endings, ends}
+use Rattle.model.proofs.Cover.{Whose, mine, foreign, sees, keeps-records, entries-stay, all-stay, vector-law, Endings, ends}
 use Rattle.model.proofs.Steps.{distinct-law, fixed-law, waiters-are}
 
 -- ---- whose a call is, as the queues see it
@@ -42,6 +42,10 @@ whose (onSemaphore n a) = foreign (stranger room (laws .tag) SemaphoreRoom.laws 
 -- ---- an entry is kept as given: no call changes a queue's owner, attribute or capacity, or the number of queues
 pub entries-law : (s : State) (c : Call) → ((q : ℕ) → bare (queueAt (step s c .state) q) ≡ bare (queueAt s q)) × (length (step s c .state .queues) ≡ length (s .queues))
 entries-law s c = entries-stay room laws askedOf whose s c
+
+-- so each still fits
+pub entries-step : (s : State) (n : ℕ) → All (QueueEntryFits n) (s .queues) → (c : Call) → All (QueueEntryFits n) (step s c .state .queues)
+entries-step s n f c = all-stay room laws askedOf whose s (QueueEntryFits n) f c
 
 -- its vector is the last one set on it
 pub set-law : (s : State) (q : ℕ) (c : Call) → queueAt (step s c .state) q .vector ≡ vectorBy (askedOf q (c .op)) (step s c .answer .code) (queueAt s q .vector)

@@ -13,14 +13,14 @@ use Rattle.access.specs.Vectors.{patternOf}
 use Rattle.itron.specs.Codes.{Err, error, eOacv, eTmout, waiting}
 pub use Rattle.model.specs.Conditions.{QView, qview, qviewOf, QueueOk}
 use Rattle.model.specs.Lists.{All}
-use Rattle.model.specs.State.{Vector, Queue, Waiter, receiving, sending, place, waiter, noQueue, zeroVector}
+use Rattle.model.specs.State.{Vector, Queue, Waiter, State, receiving, sending, place, waiter, noQueue, zeroVector}
 use Rattle.model.specs.Answers.{Effect, effect, say, whenOk, whenAccepted}
 use Rattle.model.specs.Waits.{Patience, polling, forever, waitersIn, join, refusal, wakes, gives}
 use Rattle.model.specs.Acts.{Act, own, refer, setVector, ofOwn, operationOf}
 use Rattle.model.specs.Rooms.{setVectorOf, actOn}
 use Rattle.model.specs.Queues.{QueueCall, send, receive, operation, queueIn, setBuffer, hasRoom, begins, serves, sendBy, receiveBy, does, room}
 use Rattle.model.specs.QueueClaims.{patternFor, wordsIn, sentIn, handedIn}
-use Rattle.model.specs.Conditions.{Plain}
+use Rattle.model.specs.Conditions.{Plain, Registered}
 use Rattle.model.proofs.Lists.{Distinct, cons-ne, at-put-same, at-put-keep}
 use Rattle.model.proofs.WaitQueues.{alike, leave-here, leave-elsewhere, join-here, join-elsewhere}
 use Rattle.model.proofs.Endings.{SameBut, same-all, same-put, Ends}
@@ -235,9 +235,9 @@ pub begins-mine : (t q : ℕ) (c : QueueCall) → All (λ (e : Waiter). isAt tag
 begins-mine t q (send p w) = (is-at tag q (place sending q) refl refl, tt)
 begins-mine t q (receive p) = (is-at tag q (place receiving q) refl refl, tt)
 
-pub begins-plain : (t q : ℕ) → q ≢ 0 → (c : QueueCall) → All Plain (begins t q c)
-begins-plain t q h (send p w) = ((h, tt), tt)
-begins-plain t q h (receive p) = ((h, refl), tt)
+pub begins-plain : (s : State) (t q : ℕ) → q ≢ 0 → q ≤ length (s .queues) → (c : QueueCall) → All (λ (e : Waiter). Plain e × Registered s e) (begins t q c)
+begins-plain s t q h r (send p w) = (((h, tt), r), tt)
+begins-plain s t q h r (receive p) = (((h, refl), r), tt)
 
 pub serves-no : (q : ℕ) (e : Err) (c : QueueCall) → serves q c (error e) ≡ none
 serves-no q e (send p w) = refl

@@ -18,7 +18,7 @@ use Rattle.model.specs.Waits.{absent, waitersIn, firstTask}
 use Rattle.model.specs.Acts.{Act, own, refer, setVector, ofOwn, operationOf, isRefer}
 use Rattle.model.specs.Rooms.{Room, ready, inRange, admits, vectorAt, slotsOf, check, actOn, onRecords, Asks, onObject}
 use Rattle.model.specs.History.{vectorBy}
-use Rattle.model.specs.Conditions.{Plain}
+use Rattle.model.specs.Conditions.{Plain, Registered}
 use Rattle.model.proofs.Lists.{eq-of, and-left, and-right, no-both, both, eqb-same, eqb-no, Distinct, at-put-same}
 use Rattle.model.proofs.Tests.{true-tells, passed-by}
 use Rattle.model.proofs.Endings.{SameBut, same-all, same-put, Ends, frame, keeps, not-denied}
@@ -72,9 +72,9 @@ pub record RoomLaws {C R : Type 0} (r : Room C R) : Type 0 where
   pub vector-set : (x : R) (v : Vector) → r .vector (r .withVector x v) ≡ v
   -- how its own calls end
   pub ends : (ws : List Waiter) (xs : List R) (t n : ℕ) (c : C) → Ends R ws xs t (isAt tag n) (SameBut (r .nothing) entry n xs) (r .begins t n c) (r .serves n c) (r .does ws xs t n c)
-  -- the wait that a call begins is on its object, and has a word only if it sends; a refused call serves nobody
+  -- the wait that a call begins is on its object, which is registered if the checks found it, and has a word only if it sends; a refused call serves nobody
   pub begun : (t n : ℕ) (c : C) → All (λ (e : Waiter). isAt tag n (e .place) ≡ true) (r .begins t n c)
-  pub plain : (t n : ℕ) → n ≢ 0 → (c : C) → All Plain (r .begins t n c)
+  pub plain : (s : State) (t n : ℕ) → n ≢ 0 → n ≤ length (r .records s) → (c : C) → All (λ (e : Waiter). Plain e × Registered s e) (r .begins t n c)
   pub unserved : (n : ℕ) (e : Err) (c : C) → r .serves n c (error e) ≡ none
   -- a refer tells of tasks that wait
   pub told-first : (ws : List Waiter) (xs : List R) (n m : ℕ) → ((p : Place) → firstTask (waitersIn ws p) ≤ m) → r .told ws xs n .first ≤ m

@@ -7,6 +7,7 @@ use native.Mathlib.Omega.{arith}
 use lib.ListN.{length}
 use borrow.Author.Tests.{leb-false}
 use Rattle.itron.specs.Codes.{Code}
+use Rattle.model.specs.Lists.{All}
 use Rattle.model.specs.State.{Sem, Waiter, onSem, State, place, noSem, semAt}
 use Rattle.model.specs.Answers.{whenOk}
 use Rattle.model.specs.Waits.{waitersIn}
@@ -15,13 +16,13 @@ use Rattle.model.specs.Rooms.{actOn}
 use Rattle.model.specs.Semaphores.{SemaphoreCall, semIn, setCount, room}
 use Rattle.model.specs.SemaphoreClaims.{askedOf, bySemaphore, signals, grants, Counted}
 use Rattle.model.specs.Calls.{Op, onSemaphore, onQueue, Call, step}
-use Rattle.model.specs.Conditions.{Within, Spent}
+use Rattle.model.specs.Conditions.{SemEntryFits, Within, Spent}
 use Rattle.model.specs.History.{event, seenBy, vectorBy, after, history}
 use Rattle.model.proofs.Lists.{Distinct, at-put-same, at-put-keep, cons-ne}
 use Rattle.model.proofs.Rooms.{is-at, stranger}
 use Rattle.model.proofs.Semaphores.{bare, laws, cover, counts}
 use Rattle.model.proofs.Queues as QueueRoom
-use Rattle.model.proofs.Cover.{Whose, mine, foreign, sees, entries-stay, vector-law}
+use Rattle.model.proofs.Cover.{Whose, mine, foreign, sees, entries-stay, all-stay, vector-law}
 
 -- ---- whose a call is, as the semaphores see it
 pub whose : (op : Op) → Whose room laws askedOf op
@@ -31,6 +32,10 @@ whose (onQueue n a) = foreign (stranger room (laws .tag) QueueRoom.laws (λ h. l
 -- ---- an entry is kept as given: no call changes a semaphore's owner, attribute or limit, or the number of semaphores
 pub entries-law : (s : State) (c : Call) → ((i : ℕ) → bare (semAt (step s c .state) i) ≡ bare (semAt s i)) × (length (step s c .state .sems) ≡ length (s .sems))
 entries-law s c = entries-stay room laws askedOf whose s c
+
+-- so each still fits
+pub entries-step : (s : State) (n : ℕ) → All (SemEntryFits n) (s .sems) → (c : Call) → All (SemEntryFits n) (step s c .state .sems)
+entries-step s n f c = all-stay room laws askedOf whose s (SemEntryFits n) f c
 
 -- its vector is the last one set on it
 pub set-law : (s : State) (i : ℕ) (c : Call) → semAt (step s c .state) i .vector ≡ vectorBy (askedOf i (c .op)) (step s c .answer .code) (semAt s i .vector)

@@ -11,14 +11,14 @@ use lib.ListN.{length}
 use Rattle.access.specs.Vectors.{patternOf}
 use Rattle.itron.specs.Codes.{Err, error, eQovr, eTmout, waiting}
 use Rattle.model.specs.Lists.{All}
-use Rattle.model.specs.State.{Vector, Sem, Waiter, onSem, place, waiter, noSem, zeroVector}
+use Rattle.model.specs.State.{Vector, Sem, Waiter, State, onSem, place, waiter, noSem, zeroVector}
 use Rattle.model.specs.Answers.{Effect, effect, say, whenOk}
 use Rattle.model.specs.Waits.{Patience, polling, forever, waitersIn, join, refusal, wakes, gives}
 use Rattle.model.specs.Acts.{Act, own, refer, setVector, ofOwn, operationOf}
 use Rattle.model.specs.Rooms.{actOn}
 use Rattle.model.specs.Semaphores.{SemaphoreCall, signal, acquire, operation, semIn, setCount, begins, serves, signalBy, acquireBy, does, room}
 use Rattle.model.specs.SemaphoreClaims.{patternFor, signalIn, grantIn}
-use Rattle.model.specs.Conditions.{Plain}
+use Rattle.model.specs.Conditions.{Plain, Registered}
 use Rattle.model.proofs.Lists.{at-put-same, at-put-keep}
 use Rattle.model.proofs.Endings.{SameBut, same-all, same-put, Ends}
 use Rattle.model.proofs.Endings as Endings
@@ -106,9 +106,9 @@ pub begins-mine : (t i : ℕ) (c : SemaphoreCall) → All (λ (e : Waiter). isAt
 begins-mine t i signal = tt
 begins-mine t i (acquire p) = (is-at tag i (place onSem i) refl refl, tt)
 
-pub begins-plain : (t i : ℕ) → i ≢ 0 → (c : SemaphoreCall) → All Plain (begins t i c)
-begins-plain t i h signal = tt
-begins-plain t i h (acquire p) = ((h, refl), tt)
+pub begins-plain : (s : State) (t i : ℕ) → i ≢ 0 → i ≤ length (s .sems) → (c : SemaphoreCall) → All (λ (e : Waiter). Plain e × Registered s e) (begins t i c)
+begins-plain s t i h r signal = tt
+begins-plain s t i h r (acquire p) = (((h, refl), r), tt)
 
 pub serves-no : (i : ℕ) (e : Err) (c : SemaphoreCall) → serves i c (error e) ≡ none
 serves-no i e signal = refl

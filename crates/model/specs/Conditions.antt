@@ -3,12 +3,12 @@ use mathlib.Core.Path.{_≡_}
 use mathlib.Core.Logic.{_≢_, _⊎_}
 use mathlib.Core.Bool.{true, false}
 use mathlib.Core.List.{List, [], _∷_}
-use Prim.Native.Nat.{ℕ, _≤_, _∣_}
+use Prim.Native.Nat.{ℕ, zero, suc, _≤_, _∣_}
 use lib.ListN.{length}
-use lib.IntN.{ℤ}
-use Rattle.itron.specs.Limits.{maxTasks, maxSemaphores, maxQueues, maxRegions, maxWords, addressEnd}
+use lib.IntN.{ℤ, pos, negsuc}
+use Rattle.itron.specs.Limits.{maxDomains, maxTasks, maxSemaphores, maxQueues, maxRegions, maxWords, maxCapacity, maxCount, addressEnd}
 use Rattle.model.specs.Lists.{All}
-use Rattle.model.specs.State.{Waiter, Fixed, Side, onSem, receiving, sending, State, Queue, Region, place, queueAt, semAt}
+use Rattle.model.specs.State.{Sem, Waiter, Fixed, Side, onSem, receiving, sending, State, Queue, Region, place, queueAt, semAt}
 use Rattle.model.specs.Waits.{senders, receivers, waitersAt, absent}
 use Rattle.model.specs.Queues.{wordsUsed}
 use Rattle.model.specs.Units.{unitOk}
@@ -77,12 +77,63 @@ pub record Fit (s : State) : Type 0 where
   pub queues : QueuesFit (s .queues)
   pub regions : RegionsFit (s .fixed .regions)
 
--- a semaphore's count is at most its max; who waits on one finds its count at 0
+-- ---- what was entered: n, and what checks 3 to 5 let in (document 01, "Building the table")
+-- whose an entry may be ("domain not -1, not -2 and not 1 to n, or -2 for a task: E_ID")
+abbrev pub TaskOwner : ℕ → ℤ → Type 0
+TaskOwner n (pos d) = (d ≢ 0) × (d ≤ n)
+TaskOwner n (negsuc zero) = Unit
+TaskOwner n (negsuc (suc k)) = ⊥
+
+abbrev pub Owner : ℕ → ℤ → Type 0
+Owner n (pos d) = (d ≢ 0) × (d ≤ n)
+Owner n (negsuc zero) = Unit
+Owner n (negsuc (suc zero)) = Unit
+Owner n (negsuc (suc (suc k))) = ⊥
+
+-- the attributes of a region ("region attribute bits other than 1 (no-write) and 4 (execute): E_RSATR")
+abbrev pub RegionAttribute : ℕ → Type 0
+RegionAttribute a = (((a ≡ 0) ⊎ (a ≡ 1)) ⊎ (a ≡ 4)) ⊎ (a ≡ 5)
+
+-- "semaphore needs 1 <= max <= 65,535"; its count is in Within
+abbrev pub SemEntryFits : ℕ → Sem → Type 0
+SemEntryFits n x = Owner n (x .domain) × (x .attribute ≡ 0) × (1 ≤ x .max) × (x .max ≤ maxCount)
+
+-- queue capacity 0 to its limit; the total is in QueuesFit
+abbrev pub QueueEntryFits : ℕ → Queue → Type 0
+QueueEntryFits n q = Owner n (q .domain) × (q .attribute ≡ 0) × (q .capacity ≤ maxCapacity)
+
+-- its numbers are in RegionsFit and UnitFits
+abbrev pub RegionEntryFits : ℕ → Region → Type 0
+RegionEntryFits n r = Owner n (r .domain) × RegionAttribute (r .attribute)
+
+-- "n from 0 to 32"; owner, attribute and numbers of every entry
+pub record EntriesFit (s : State) : Type 0 where
+  pub domains : s .fixed .count ≤ maxDomains
+  pub tasks : All (TaskOwner (s .fixed .count)) (s .fixed .domains)
+  pub sems : All (SemEntryFits (s .fixed .count)) (s .sems)
+  pub queues : All (QueueEntryFits (s .fixed .count)) (s .queues)
+  pub regions : All (RegionEntryFits (s .fixed .count)) (s .fixed .regions)
+
+-- ---- who waits, waits at a registered object
+-- how many objects there are at which a task can wait on a side
+abbrev pub sideCount : State → Side → ℕ
+sideCount s onSem = length (s .sems)
+sideCount s receiving = length (s .queues)
+sideCount s sending = length (s .queues)
+
+abbrev pub Registered : State → Waiter → Type 0
+Registered s e = e .place .number ≤ sideCount s (e .place .side)
+
+-- ---- a semaphore's count is at most its max; who waits on one finds its count at 0
 abbrev pub Within : State → Type 0
 Within s = (i : ℕ) → semAt s i .count ≤ semAt s i .max
 
 abbrev pub Spent : State → ℕ → Type 0
 Spent s i = (waitersAt s (place onSem i) ≡ []) ⊎ (semAt s i .count ≡ 0)
+
+-- nothing is buffered
+abbrev pub NoWords : Queue → Type 0
+NoWords q = q .buffer ≡ []
 
 -- what is seen of one queue
 pub record QView : Type 0 where
@@ -105,9 +156,12 @@ pub record QueueOk (v : QView) : Type 0 where
 -- the condition
 pub record Sound (s : State) : Type 0 where
   pub fit : Fit s
+  pub entries : EntriesFit s
+  pub registered : All (Registered s) (s .waits)
   pub within : Within s
   pub spent : (i : ℕ) → Spent s i
   pub fine : (q : ℕ) → QueueOk (qviewOf s q)
   pub unit : UnitFits (s .fixed)
-  -- nobody waits before the table is closed
+  -- before the table is closed nobody waits and nothing is buffered
   pub quiet : s .fixed .closed ≡ false → s .waits ≡ []
+  pub empty : s .fixed .closed ≡ false → All NoWords (s .queues)
