@@ -21,13 +21,13 @@ use Rattle.model.specs.Lists.{total}
 use Rattle.model.specs.History.{event, after, history}
 use Rattle.model.specs.Conditions.{NoWords, Sound}
 use Rattle.model.specs.Demand3.{Demand3, JustClosed}
+use Rattle.model.specs.Denials.{Ready}
 use Rattle.model.specs.Turns.{serves, tasksOf, InTurn}
 use Rattle.model.specs.declared.Released.{Released}
 use Rattle.model.specs.Answers as Answers
 use Rattle.model.proofs.Lists.{all-any}
 use Rattle.model.proofs.Refers.{refer-state}
 use Rattle.model.proofs.Table.{sound-fresh, sound-enter}
-use Rattle.model.proofs.Answers.{Ready}
 use Rattle.model.proofs.Owners.{above-nobody}
 use Rattle.model.proofs.Demand3.{demand3}
 use Rattle.model.proofs.Turns.{in-turn}

@@ -24,7 +24,7 @@ use Rattle.model.specs.Queues as Queues
 use Rattle.model.specs.Calls.{Op, onSemaphore, onQueue, call, asks, actIf, step}
 use Rattle.model.specs.SemaphoreClaims as SemaphoreClaims
 use Rattle.model.specs.QueueClaims as QueueClaims
-pub use Rattle.model.specs.Denials.{Ready, named, InRange, There}
+use Rattle.model.specs.Denials.{Ready, named, InRange, There}
 use Rattle.model.proofs.Lists.{no-both}
 use Rattle.model.proofs.Rooms.{own-same}
 use Rattle.model.proofs.Semaphores as SemaphoreRoom

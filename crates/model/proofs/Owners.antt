@@ -6,8 +6,8 @@ use lib.IntN.{ℤ, pos, negsuc}
 use Rattle.access.proofs.Laws.{kernel-always, above-unused}
 use Rattle.access.specs.Patterns.{admitted}
 use Rattle.model.specs.State.{State, domainAt}
+use Rattle.model.specs.Denials.{Ready}
 use Rattle.model.specs.Conditions.{TaskOwner, Sound}
-use Rattle.model.proofs.Answers.{Ready}
 use Rattle.model.proofs.Lists.{all-at}
 
 -- the bits above n of a pattern decide nothing for a caller

@@ -19,12 +19,13 @@ use Rattle.model.specs.Acts.{Act, own, refer, setVector}
 use Rattle.model.specs.Rooms.{Room, inRange, onObject}
 use Rattle.model.specs.Semaphores.{SemaphoreCall}
 use Rattle.model.specs.Queues.{QueueCall}
+use Rattle.model.specs.Denials.{Ready, named}
 use Rattle.model.specs.Calls.{Op, onSemaphore, onQueue, opOf, call, step}
 use Rattle.model.proofs.Lists.{no-both, length-put}
 use Rattle.model.proofs.Tests.{Tells, iff-tells, le-tells, eq-tells, and-tells, not-tells}
 use Rattle.model.proofs.WaitQueues.{place-of, alike}
 use Rattle.model.proofs.Rooms.{is-refer}
-use Rattle.model.proofs.Answers.{Ready, named, refuses, id-when}
+use Rattle.model.proofs.Answers.{refuses, id-when}
 
 -- ---- the (k+1)th entry of a kind has the number k + 1
 module _ {A : Type 0} where

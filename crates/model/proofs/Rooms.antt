@@ -11,12 +11,12 @@ use lib.IntN.{ℤ}
 use lib.ListN.{length}
 use Rattle.access.specs.Vectors.{patternOf}
 use Rattle.itron.specs.Codes.{Err, eCtx, eId, ePar, eNoexs, eOacv, Code, ok, waiting, error}
-use Rattle.model.specs.Lists.{at, put, All}
+use Rattle.model.specs.Lists.{at, All}
 use Rattle.model.specs.State.{Vector, Waiter, Side, onSem, receiving, sending, Place, State, setWaits, domainAt, no}
-use Rattle.model.specs.Answers.{Effect, Out, whenOk, whenAccepted}
+use Rattle.model.specs.Answers.{whenOk, whenAccepted}
 use Rattle.model.specs.Waits.{absent, waitersIn, firstTask}
 use Rattle.model.specs.Acts.{Act, own, refer, setVector, ofOwn, operationOf, isRefer}
-use Rattle.model.specs.Rooms.{Room, ready, inRange, admits, vectorAt, slotsOf, check, actOn, onRecords, Asks, onObject}
+use Rattle.model.specs.Rooms.{Room, ready, inRange, admits, vectorAt, slotsOf, check, actOn, Asks, onObject}
 use Rattle.model.specs.History.{vectorBy}
 use Rattle.model.specs.Conditions.{Plain, Registered}
 use Rattle.model.proofs.Lists.{eq-of, and-left, and-right, no-both, both, eqb-same, eqb-no, Distinct, at-put-same}
