@@ -33,7 +33,7 @@ abbrev pub Nobody : Place → List Waiter → Type 0
 Nobody p ws = All (λ (y : Waiter). y .place ≢ p) ws
 
 -- e is the first who waits at a place, and waits once: others wait elsewhere before it, and others behind it
-pub record First (p : Place) (before behind : List Waiter) (e : Waiter) : Type 0 where
+pub record FirstAt (p : Place) (before behind : List Waiter) (e : Waiter) : Type 0 where
   pub there : e .place ≡ p
   pub ahead : Nobody p before
   pub once : All (λ (y : Waiter). e .task ≢ y .task) (before ++ behind)
@@ -64,7 +64,7 @@ others-left a b e h =
 -- there is no third case where each task waits once
 pub data Found (p : Place) (ws : List Waiter) : Type 0 where
   nobody : Nobody p ws → Found p ws
-  first : (before behind : List Waiter) (e : Waiter) → ws ≡ before ++ (e ∷ behind) → First p before behind e → Found p ws
+  first : (before behind : List Waiter) (e : Waiter) → ws ≡ before ++ (e ∷ behind) → FirstAt p before behind e → Found p ws
 
 pub found : (p : Place) (ws : List Waiter) → Distinct ws → Found p ws
 found p [] d = nobody tt
@@ -109,7 +109,7 @@ module _ (f : Fixed) (qs : List Queue) (k : ℕ) (l m : List Sem) where
 
   module _ (x : Sem) where
     -- "With waiters, the first is released with E_OK and the count stays"
-    pub signal-wakes : (a b : List Waiter) (e : Waiter) → First atSem a b e → Passes (semState (a ++ (e ∷ b)) x) (pos k) (askSem (own signal))
+    pub signal-wakes : (a b : List Waiter) (e : Waiter) → FirstAt atSem a b e → Passes (semState (a ++ (e ∷ b)) x) (pos k) (askSem (own signal))
         → step (semState (a ++ (e ∷ b)) x) (call (pos k) (askSem (own signal))) ≡ record { answer = answers ok 0 (with e 0); state = semState (a ++ b) x }
     signal-wakes a b e h p =
         let s = semState (a ++ (e ∷ b)) x in
@@ -186,7 +186,7 @@ module _ (f : Fixed) (xs : List Sem) (k : ℕ) (l m : List Queue) where
 
     module _ (a : Patience) (w : ℕ) where
       -- "With a waiting receiver, the first gets the word and is released"
-      pub send-hands : (c b : List Waiter) (e : Waiter) → First toReceive c b e → Passes (queueState (c ++ (e ∷ b)) x) (pos k) (askQueue (own (send a w)))
+      pub send-hands : (c b : List Waiter) (e : Waiter) → FirstAt toReceive c b e → Passes (queueState (c ++ (e ∷ b)) x) (pos k) (askQueue (own (send a w)))
           → step (queueState (c ++ (e ∷ b)) x) (call (pos k) (askQueue (own (send a w)))) ≡ record { answer = answers ok 0 (with e w); state = queueState (c ++ b) x }
       send-hands c b e h p =
           let s = queueState (c ++ (e ∷ b)) x in
@@ -228,7 +228,7 @@ module _ (f : Fixed) (xs : List Sem) (k : ℕ) (l m : List Queue) where
           → step (queueState ws x) (call (pos k) (askQueue (own (receive a)))) ≡ record { answer = answers ok w []; state = queueState ws (withBuffer x b) }
       receive-takes ws w b h r p = by-content ws (w ∷ b) [] h (nobody-found toSend ws r) p ∙ stored (λ (y : Queue). b) ws (answers ok w [])
 
-      module _ (c d : List Waiter) (e : Waiter) (h : First toSend c d e) (p : Passes (queueState (c ++ (e ∷ d)) x) (pos k) (askQueue (own (receive a)))) where
+      module _ (c d : List Waiter) (e : Waiter) (h : FirstAt toSend c d e) (p : Passes (queueState (c ++ (e ∷ d)) x) (pos k) (askQueue (own (receive a)))) where
         -- "if a sender waits, the first sender's word moves to the buffer's end and it is released"
         pub receive-refills : (w : ℕ) (b : List ℕ) → x .buffer ≡ w ∷ b
             → step (queueState (c ++ (e ∷ d)) x) (call (pos k) (askQueue (own (receive a)))) ≡ record { answer = answers ok w (with e 0); state = queueState (c ++ d) (withBuffer x (b ++ (e .word ∷ []))) }
