@@ -1,5 +1,5 @@
 -- Which answer a call gives, and when (document 01, "Calls on an open gateway"): the sentences on the checks, each by plain facts of the state before.
--- What a call that passes them answers is in SemaphoreAnswers and QueueAnswers; what it does to the state is in Steps and Turns.
+-- What a call that passes them answers is in SemaphoreAnswers and QueueAnswers; what it does to the state is in Effects, Steps and Turns.
 use mathlib.Core.Path.{_≡_, refl, sym, ap, _∙_}
 use mathlib.Core.Logic.{_≢_}
 use mathlib.Core.Bool.{true, not, _&&_}
