@@ -1,32 +1,49 @@
 -- Built and Ran leave nothing out: every entry, refused ones too, and every call are in the claims about runs; one run has a refused entry and each kind of call. Assumes nothing.
 use Prim.Native.Nat.{ℕ, zero, suc}
-use mathlib.Core.Path.{_≡_, refl, ap, _∙_}
+use mathlib.Core.Path.{_≡_, refl, sym, ap, _∙_}
+use mathlib.Core.Logic.{_≢_}
 use mathlib.Core.Bool.{true}
-use mathlib.Core.List.{List, [], _∷_}
-use lib.IntN.{pos, negℤ}
+use mathlib.Core.List.{List, [], _∷_, _++_, append-nil}
+use mathlib.Core.Option.{Option, none, some}
+use lib.IntN.{ℤ, pos, negsuc, negℤ}
 use Rattle.access.specs.Vectors.{privateOf}
+use Rattle.itron.specs.Codes.{Err}
 use Rattle.itron.specs.Limits.{minUnit}
 use Rattle.model.specs.State as Model
-use Rattle.model.specs.Answers.{codeOf}
-use Rattle.model.specs.Table.{Entry, task, fresh, enter, close}
+use Rattle.model.specs.Answers.{codeOf, whenOk}
+use Rattle.model.specs.Table.{Entry, task, fresh, checkEntry, enter, enterBy, close}
 use Rattle.model.specs.Units.{unitOk}
 use Rattle.model.specs.Acts.{own, refer, setVector}
 use Rattle.model.specs.declared.sem.SemaphoreCall.the-variants.{Signal as signal, Acquire as acquire}
 use Rattle.model.specs.declared.dtq.QueueCall.the-variants.{Send as send, Receive as receive}
 use Rattle.model.specs.declared.Patience.the-variants.{Polling, Forever}
 use Rattle.model.specs.Calls.{Call, call, onSemaphore, onQueue, asks}
+use Rattle.model.proofs.Numbers.{refusal-negative}
 use Rattle.kernel.specs.declared.state.State.{State}
 use Rattle.kernel.specs.declared.state.Answer.{Answer}
 use Rattle.kernel.specs.declared.state.Entered.{Entered}
 use Rattle.kernel.specs.View.{viewOf}
 use Rattle.kernel.specs.Promises.{Begins, Enters, Does, Tells}
-use Rattle.laws.specs.Runs.{Built, begun, entered, Said, saidBy, Ran, start, calls, refers}
+use Rattle.laws.specs.Runs.{Built, begun, entered, taken, Said, saidBy, Ran, start, calls, refers}
 use Rattle.laws.specs.Claims.{Whole}
 use Rattle.laws.proofs.Runs.{whole}
 
--- ---- whatever the entry answers, and whatever the call is
+-- ---- whatever fresh gets, whatever the entry answers, and whatever the call is
+pub every-fresh : (n : ℤ) (unit : ℕ) (r : Entered) → Begins n unit r → Built (r .state)
+every-fresh n unit r g = begun n unit r g
+
 pub every-entry : (s : State) → Built s → (i : Entry) (r : Entered) → Enters s (enter (viewOf s) i) r → Built (r .state)
 every-entry s b i r g = entered s b i r g
+
+-- an entry is taken where the program answered E_OK (0), and otherwise not
+pub taken-when-0 : (s : State) (b : Built s) (i : Entry) (r : Entered) (g : Enters s (enter (viewOf s) i) r) → (r .code ≡ pos 0 → taken (entered s b i r g) ≡ taken b ++ (i ∷ [])) × (r .code ≢ pos 0 → taken (entered s b i r g) ≡ taken b)
+unfolding enter
+taken-when-0 s b i r g = go (checkEntry (viewOf s) i) (ap (λ (x : Entered). x .code) (g .same))
+  where
+    go : (o : Option Err) → r .code ≡ codeOf (enterBy (viewOf s) i o .answer .code)
+        → (r .code ≡ pos 0 → taken b ++ whenOk [] (i ∷ []) (enterBy (viewOf s) i o .answer .code) ≡ taken b ++ (i ∷ [])) × (r .code ≢ pos 0 → taken b ++ whenOk [] (i ∷ []) (enterBy (viewOf s) i o .answer .code) ≡ taken b)
+    go none e = ((λ z. refl), (λ z. absurd (z e)))
+    go (some x) e = ((λ z. let q : negsuc (refusal-negative x .0) ≡ pos 0 = sym (refusal-negative x .1) ∙ sym e ∙ z in cc), (λ z. append-nil (taken b)))
 
 module _ (s₀ : State) (cs : List Call) (s : State) (l : List Said) (h : Ran s₀ cs s l) (c : Call) (r : Answer) where
   pub every-call : Does s c r → Ran s₀ (c ∷ cs) (r .state) (saidBy r ∷ l)

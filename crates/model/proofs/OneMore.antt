@@ -23,7 +23,7 @@ use Rattle.model.specs.Demand3.{Demand3}
 use Rattle.model.proofs.Lists.{eqb-same, eqb-no}
 
 -- the words that a queue holds: those buffered, then those of its waiting senders
-abbrev held : State → ℕ → List ℕ
+abbrev pub held : State → ℕ → List ℕ
 held s q = queueAt s q .buffer ++ Queues.wordsIn (senders s q)
 
 -- ---- no call yet: the queues are empty, the counts are those at the start, nobody waits
@@ -43,11 +43,11 @@ cancel (x ∷ l) e = cancel l (ap (drop 1) e)
 
 -- ---- after the calls h, which left the state s, one call of task t, which left the state s′
 module _ (s₀ s s′ found : State) (h : History) (t : ℤ) (v : ℕ) (info : Info) where
-  abbrev did : Op → Code → List Released → Event
+  abbrev pub did : Op → Code → List Released → Event
   did op k rs = record { before = found; call = call t op; answer = record { code = k; word = v; released = rs; info = info } }
 
   -- the claim before the call, and with it
-  abbrev More : Op → Code → List Released → Type 0
+  abbrev pub More : Op → Code → List Released → Type 0
   More op k rs = Demand3 s₀ h s × Demand3 s₀ (did op k rs ∷ h) s′
 
   -- ---- the words of a queue
