@@ -1,5 +1,6 @@
 -- Built and Ran leave nothing out: every entry, refused ones too, and every call are in the claims about runs; one run has a refused entry and each kind of call. Assumes nothing.
-use Prim.Native.Nat.{ℕ, zero, suc}
+use Prim.Native.Nat.{ℕ, zero, suc, _≤_, _<_}
+use native.Mathlib.Omega.{arith}
 use mathlib.Core.Path.{_≡_, refl, sym, ap, _∙_}
 use mathlib.Core.Logic.{_≢_}
 use mathlib.Core.Bool.{true}
@@ -19,6 +20,7 @@ use Rattle.model.specs.declared.dtq.QueueCall.the-variants.{Send as send, Recei
 use Rattle.model.specs.declared.Patience.the-variants.{Polling, Forever}
 use Rattle.model.specs.Calls.{Call, call, onSemaphore, onQueue, asks}
 use Rattle.model.proofs.Numbers.{refusal-negative}
+use Rattle.model.proofs.Entries.{fresh-takes, fresh-above, fresh-below}
 use Rattle.kernel.specs.declared.state.State.{State}
 use Rattle.kernel.specs.declared.state.Answer.{Answer}
 use Rattle.kernel.specs.declared.state.Entered.{Entered}
@@ -31,6 +33,14 @@ use Rattle.laws.proofs.Runs.{whole}
 -- ---- whatever fresh gets, whatever the entry answers, and whatever the call is
 pub every-fresh : (n : ℤ) (unit : ℕ) (r : Entered) → Begins n unit r → Built (r .state)
 every-fresh n unit r g = begun n unit r g
+
+-- n = 0 to 32 is answered E_OK (0), a higher or lower number E_PAR (-17)
+pub fresh-codes : (n : ℕ) (r : Entered) → (Begins (pos n) minUnit r → n ≤ 32 → r .code ≡ pos 0) × (Begins (pos n) minUnit r → 32 < n → r .code ≡ negℤ (pos 17)) × (Begins (negsuc n) minUnit r → r .code ≡ negℤ (pos 17))
+fresh-codes n r = (
+  (λ g h. ap (λ (x : Entered). x .code) (g .same) ∙ ap codeOf (fresh-takes n minUnit h (0, (omega arith, refl)) .0)),
+  (λ g h. ap (λ (x : Entered). x .code) (g .same) ∙ ap codeOf (fresh-above n minUnit h .0)),
+  (λ g. ap (λ (x : Entered). x .code) (g .same) ∙ ap codeOf (fresh-below n minUnit .0)),
+)
 
 pub every-entry : (s : State) → Built s → (i : Entry) (r : Entered) → Enters s (enter (viewOf s) i) r → Built (r .state)
 every-entry s b i r g = entered s b i r g
