@@ -36,3 +36,4 @@ pub mod Owners
 pub mod Refuted
 pub mod OneMore
 pub mod Allowed
+pub mod AllStates
