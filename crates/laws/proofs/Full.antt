@@ -56,10 +56,14 @@ taken-when-0 s b i r g = go (checkEntry (viewOf s) i) (ap (λ (x : Entered). x .
     go (some x) e = ((λ z. let q : negsuc (refusal-negative x .0) ≡ pos 0 = sym (refusal-negative x .1) ∙ sym e ∙ z in cc), (λ z. append-nil (taken b)))
 
 module _ (s₀ : State) (cs : List Call) (s : State) (l : List Said) (h : Ran s₀ cs s l) (c : Call) (r : Answer) where
-  pub every-call : Does s c r → Ran s₀ (c ∷ cs) (r .state) (saidBy r ∷ l)
+  -- what it answers, whole
+  abbrev whole-answer : Said
+  whole-answer = record { reply = record { outcome = r .outcome; word = r .word; released = r .released }; info = r .info }
+
+  pub every-call : Does s c r → Ran s₀ (c ∷ cs) (r .state) (whole-answer ∷ l)
   every-call d = calls cs s l h c r d
 
-  pub every-refer : asks (c .op) .isRefer ≡ true → Tells s c r → Ran s₀ (c ∷ cs) (r .state) (saidBy r ∷ l)
+  pub every-refer : asks (c .op) .isRefer ≡ true → Tells s c r → Ran s₀ (c ∷ cs) (r .state) (whole-answer ∷ l)
   every-refer e d = refers cs s l h c e r d
 
 -- ---- one run: n = 2, a task of domain 3, which is refused, one closing, then a call of each kind, in document 01's order
