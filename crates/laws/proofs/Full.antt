@@ -11,7 +11,7 @@ use Rattle.access.specs.Vectors.{privateOf}
 use Rattle.itron.specs.Codes.{Err}
 use Rattle.itron.specs.Limits.{minUnit}
 use Rattle.model.specs.State as Model
-use Rattle.model.specs.Answers.{codeOf, whenOk}
+use Rattle.model.specs.Answers.{Out, codeOf, whenOk}
 use Rattle.model.specs.Table.{Entry, task, fresh, checkEntry, enter, enterBy, close}
 use Rattle.model.specs.Units.{unitOk}
 use Rattle.model.specs.Acts.{own, refer, setVector}
@@ -45,10 +45,14 @@ fresh-codes n r = (
 pub every-entry : (s : State) → Built s → (i : Entry) (r : Entered) → Enters s (enter (viewOf s) i) r → Built (r .state)
 every-entry s b i r g = entered s b i r g
 
+-- the code of an entry or a closing is the rules'
+pub code-given : (s : State) (o : Out) (r : Entered) → Enters s o r → r .code ≡ codeOf (o .answer .code)
+code-given s o r g = ap (λ (x : Entered). x .code) (g .same)
+
 -- an entry is taken where the program answered E_OK (0), and otherwise not
 pub taken-when-0 : (s : State) (b : Built s) (i : Entry) (r : Entered) (g : Enters s (enter (viewOf s) i) r) → (r .code ≡ pos 0 → taken (entered s b i r g) ≡ taken b ++ (i ∷ [])) × (r .code ≢ pos 0 → taken (entered s b i r g) ≡ taken b)
 unfolding enter
-taken-when-0 s b i r g = go (checkEntry (viewOf s) i) (ap (λ (x : Entered). x .code) (g .same))
+taken-when-0 s b i r g = go (checkEntry (viewOf s) i) (code-given s _ r g)
   where
     go : (o : Option Err) → r .code ≡ codeOf (enterBy (viewOf s) i o .answer .code)
         → (r .code ≡ pos 0 → taken b ++ whenOk [] (i ∷ []) (enterBy (viewOf s) i o .answer .code) ≡ taken b ++ (i ∷ [])) × (r .code ≢ pos 0 → taken b ++ whenOk [] (i ∷ []) (enterBy (viewOf s) i o .answer .code) ≡ taken b)
