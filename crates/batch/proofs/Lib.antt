@@ -4,3 +4,4 @@ pub mod Loops
 pub mod Apart
 pub mod Decodes
 pub mod Places
+pub mod Afterwards

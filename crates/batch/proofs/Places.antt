@@ -19,10 +19,10 @@ use Rattle.model.specs.History.{after}
 use Rattle.kernel.specs.declared.state.State.{State}
 use Rattle.kernel.specs.View.{viewOf}
 use Rattle.batch.specs.declared.run.Ran.{Ran}
-use Rattle.batch.specs.Encoding.{outcomeWord, encoded, noCall, itemAt, itemsIn, callsIn, answerable}
+use Rattle.batch.specs.Encoding.{answerWords, outcomeWord, encoded, noCall, itemAt, itemsIn, callsIn, answerable}
 use Rattle.batch.specs.Written.{CodeSaid, Says}
 use Rattle.batch.specs.Made.{answerTo}
-use Rattle.batch.specs.Runs.{Runs}
+use Rattle.batch.specs.Runs.{itemsMade, Runs}
 use Rattle.batch.proofs.Loops.{answersOf, answers-next, answer-length, answers-length}
 
 -- ---- the words of one answer
@@ -88,21 +88,28 @@ module _ (m : Model.State) (ws : List ℕ) where
           ∙ ap answerOf (sym e)
       go (inr i) h = earlier-row told (answerOf n) (k * 11) (omega (arith, answers-length m ws n)) ∙ h i
 
-module _ {s : State} {calls before behind : List ℕ} {r : Ran} (h : Runs s calls before behind r) (k : ℕ) (l : k < r .answered) where
-  row-at : take 11 (drop (k * 11) behind) ≡ answerOf (viewOf s) calls k
+-- a slice that begins with the answers of n items, and the k-th of these
+module _ (m : Model.State) (calls before behind : List ℕ) (n : ℕ) (e : n ≡ answerable (length calls) (length before))
+    (f : behind ≡ answersOf m (itemsMade calls before) ++ drop (n * answerWords) before) (k : ℕ) (l : k < n) where
+  row-at : take 11 (drop (k * 11) behind) ≡ answerOf m calls k
   row-at =
-      let m = viewOf s in
-      let n = answerable (length calls) (length before) in
-      let e = h .answered in
-      let told = answersOf m (itemsIn calls n) in
-      ap (λ (x : List ℕ). take 11 (drop (k * 11) x)) (h .answers)
-      ∙ earlier-row told (drop (r .answered * 11) before) (k * 11) (omega (arith, answers-length m calls n))
-      ∙ answer-at m calls n k (omega arith)
+      let made = answerable (length calls) (length before) in
+      let told = answersOf m (itemsIn calls made) in
+      ap (λ (x : List ℕ). take 11 (drop (k * 11) x)) f
+      ∙ earlier-row told (drop (n * 11) before) (k * 11) (omega (arith, answers-length m calls made))
+      ∙ answer-at m calls made k (omega arith)
 
+  pub call-at : (c : Call) → itemAt calls k ≡ some c → Says (take 11 (drop (k * 11) behind)) (step (after m (callsIn (itemsIn calls k))) c .answer)
+  call-at c z =
+      let x = after m (callsIn (itemsIn calls k)) in
+      subst (λ (y : List ℕ). Says y (step x c .answer)) (sym (row-at ∙ ap (answerTo x) z)) (says (step x c .answer))
+
+  pub no-call-at : itemAt calls k ≡ none → take 11 (drop (k * 11) behind) ≡ ofZ w32 (negsuc 9) ∷ replicate 10 0
+  no-call-at z = row-at ∙ ap (answerTo (after m (callsIn (itemsIn calls k)))) z ∙ no-call-said
+
+module _ {s : State} {calls before behind : List ℕ} {r : Ran} (h : Runs s calls before behind r) (k : ℕ) (l : k < r .answered) where
   pub call-answered : (c : Call) → itemAt calls k ≡ some c → Says (take 11 (drop (k * 11) behind)) (step (after (viewOf s) (callsIn (itemsIn calls k))) c .answer)
-  call-answered c e =
-      let m = after (viewOf s) (callsIn (itemsIn calls k)) in
-      subst (λ (x : List ℕ). Says x (step m c .answer)) (sym (row-at ∙ ap (answerTo m) e)) (says (step m c .answer))
+  call-answered = call-at (viewOf s) calls before behind (r .answered) (h .answered) (h .answers) k l
 
   pub no-call-answered : itemAt calls k ≡ none → take 11 (drop (k * 11) behind) ≡ ofZ w32 (negsuc 9) ∷ replicate 10 0
-  no-call-answered e = row-at ∙ ap (answerTo (after (viewOf s) (callsIn (itemsIn calls k)))) e ∙ no-call-said
+  no-call-answered = no-call-at (viewOf s) calls before behind (r .answered) (h .answered) (h .answers) k l

@@ -1,38 +1,73 @@
 -- Built and Ran leave nothing out: every entry, refused ones too, and every call are in the claims about runs; one run has a refused entry and each kind of call. Assumes nothing.
-use Prim.Native.Nat.{ℕ, zero, suc}
-use mathlib.Core.Path.{_≡_, refl, ap, _∙_}
+use Prim.Native.Nat.{ℕ, zero, suc, _≤_, _<_}
+use native.Mathlib.Omega.{arith}
+use mathlib.Core.Path.{_≡_, refl, sym, ap, _∙_}
+use mathlib.Core.Logic.{_≢_}
 use mathlib.Core.Bool.{true}
-use mathlib.Core.List.{List, [], _∷_}
-use lib.IntN.{pos, negℤ}
+use mathlib.Core.List.{List, [], _∷_, _++_, append-nil}
+use mathlib.Core.Option.{Option, none, some}
+use lib.IntN.{ℤ, pos, negsuc, negℤ}
 use Rattle.access.specs.Vectors.{privateOf}
+use Rattle.itron.specs.Codes.{Err}
 use Rattle.itron.specs.Limits.{minUnit}
 use Rattle.model.specs.State as Model
-use Rattle.model.specs.Answers.{codeOf}
-use Rattle.model.specs.Table.{Entry, task, fresh, enter, close}
+use Rattle.model.specs.Answers.{Out, codeOf, whenOk}
+use Rattle.model.specs.Table.{Entry, task, fresh, checkEntry, enter, enterBy, close}
 use Rattle.model.specs.Units.{unitOk}
 use Rattle.model.specs.Acts.{own, refer, setVector}
 use Rattle.model.specs.declared.sem.SemaphoreCall.the-variants.{Signal as signal, Acquire as acquire}
 use Rattle.model.specs.declared.dtq.QueueCall.the-variants.{Send as send, Receive as receive}
 use Rattle.model.specs.declared.Patience.the-variants.{Polling, Forever}
 use Rattle.model.specs.Calls.{Call, call, onSemaphore, onQueue, asks}
+use Rattle.model.proofs.Numbers.{refusal-negative}
+use Rattle.model.proofs.Entries.{fresh-takes, fresh-above, fresh-below}
 use Rattle.kernel.specs.declared.state.State.{State}
 use Rattle.kernel.specs.declared.state.Answer.{Answer}
 use Rattle.kernel.specs.declared.state.Entered.{Entered}
 use Rattle.kernel.specs.View.{viewOf}
 use Rattle.kernel.specs.Promises.{Begins, Enters, Does, Tells}
-use Rattle.laws.specs.Runs.{Built, begun, entered, Said, saidBy, Ran, start, calls, refers}
+use Rattle.laws.specs.Runs.{Built, begun, entered, taken, Said, saidBy, Ran, start, calls, refers}
 use Rattle.laws.specs.Claims.{Whole}
 use Rattle.laws.proofs.Runs.{whole}
 
--- ---- whatever the entry answers, and whatever the call is
+-- ---- whatever fresh gets, whatever the entry answers, and whatever the call is
+pub every-fresh : (n : ℤ) (unit : ℕ) (r : Entered) → Begins n unit r → Built (r .state)
+every-fresh n unit r g = begun n unit r g
+
+-- n = 0 to 32 is answered E_OK (0), a higher or lower number E_PAR (-17)
+pub fresh-codes : (n : ℕ) (r : Entered) → (Begins (pos n) minUnit r → n ≤ 32 → r .code ≡ pos 0) × (Begins (pos n) minUnit r → 32 < n → r .code ≡ negℤ (pos 17)) × (Begins (negsuc n) minUnit r → r .code ≡ negℤ (pos 17))
+fresh-codes n r = (
+  (λ g h. ap (λ (x : Entered). x .code) (g .same) ∙ ap codeOf (fresh-takes n minUnit h (0, (omega arith, refl)) .0)),
+  (λ g h. ap (λ (x : Entered). x .code) (g .same) ∙ ap codeOf (fresh-above n minUnit h .0)),
+  (λ g. ap (λ (x : Entered). x .code) (g .same) ∙ ap codeOf (fresh-below n minUnit .0)),
+)
+
 pub every-entry : (s : State) → Built s → (i : Entry) (r : Entered) → Enters s (enter (viewOf s) i) r → Built (r .state)
 every-entry s b i r g = entered s b i r g
 
+-- the code of an entry or a closing is the rules'
+pub code-given : (s : State) (o : Out) (r : Entered) → Enters s o r → r .code ≡ codeOf (o .answer .code)
+code-given s o r g = ap (λ (x : Entered). x .code) (g .same)
+
+-- an entry is taken where the program answered E_OK (0), and otherwise not
+pub taken-when-0 : (s : State) (b : Built s) (i : Entry) (r : Entered) (g : Enters s (enter (viewOf s) i) r) → (r .code ≡ pos 0 → taken (entered s b i r g) ≡ taken b ++ (i ∷ [])) × (r .code ≢ pos 0 → taken (entered s b i r g) ≡ taken b)
+unfolding enter
+taken-when-0 s b i r g = go (checkEntry (viewOf s) i) (code-given s _ r g)
+  where
+    go : (o : Option Err) → r .code ≡ codeOf (enterBy (viewOf s) i o .answer .code)
+        → (r .code ≡ pos 0 → taken b ++ whenOk [] (i ∷ []) (enterBy (viewOf s) i o .answer .code) ≡ taken b ++ (i ∷ [])) × (r .code ≢ pos 0 → taken b ++ whenOk [] (i ∷ []) (enterBy (viewOf s) i o .answer .code) ≡ taken b)
+    go none e = ((λ z. refl), (λ z. absurd (z e)))
+    go (some x) e = ((λ z. let q : negsuc (refusal-negative x .0) ≡ pos 0 = sym (refusal-negative x .1) ∙ sym e ∙ z in cc), (λ z. append-nil (taken b)))
+
 module _ (s₀ : State) (cs : List Call) (s : State) (l : List Said) (h : Ran s₀ cs s l) (c : Call) (r : Answer) where
-  pub every-call : Does s c r → Ran s₀ (c ∷ cs) (r .state) (saidBy r ∷ l)
+  -- what it answers, whole
+  abbrev whole-answer : Said
+  whole-answer = record { reply = record { outcome = r .outcome; word = r .word; released = r .released }; info = r .info }
+
+  pub every-call : Does s c r → Ran s₀ (c ∷ cs) (r .state) (whole-answer ∷ l)
   every-call d = calls cs s l h c r d
 
-  pub every-refer : asks (c .op) .isRefer ≡ true → Tells s c r → Ran s₀ (c ∷ cs) (r .state) (saidBy r ∷ l)
+  pub every-refer : asks (c .op) .isRefer ≡ true → Tells s c r → Ran s₀ (c ∷ cs) (r .state) (whole-answer ∷ l)
   every-refer e d = refers cs s l h c e r d
 
 -- ---- one run: n = 2, a task of domain 3, which is refused, one closing, then a call of each kind, in document 01's order

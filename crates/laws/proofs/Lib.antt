@@ -3,3 +3,4 @@ pub mod Full
 pub mod Denials
 pub mod Starred
 pub mod Made
+pub mod Plainly

@@ -1,20 +1,24 @@
--- The starred list, made by the program's operations, gives the starred answers. Assumes nothing.
+-- The starred list, made by the program's operations, gives the starred answers, and nothing is left out of what is made. Assumes nothing.
 use Prim.Native.Nat.{ℕ, suc}
 use native.Mathlib.Omega.{arith}
 use mathlib.Core.Path.{_≡_, refl, ap, _∙_}
 use mathlib.Core.List.{List, [], _∷_, map}
-use lib.IntN.{pos}
+use lib.IntN.{ℤ, pos, negℤ}
 use lib.ListN.{length, getD}
 use Rattle.model.specs.State as Model
-use Rattle.model.specs.State.{queueAt}
-use Rattle.model.specs.Table.{Entry, close}
+use Rattle.model.specs.State.{semAt, queueAt}
+use Rattle.model.specs.Answers.{resultOf}
+use Rattle.model.specs.Table.{Entry, enter, close}
+use Rattle.model.specs.Verdict.{verdict}
+use Rattle.model.specs.Calls.{Op, call}
+use Rattle.model.specs.declared.Outcome.the-variants as Outcome
 use Rattle.kernel.specs.declared.state.State.{State}
 use Rattle.kernel.specs.declared.state.Answer.{Answer}
 use Rattle.kernel.specs.declared.state.Entered.{Entered}
 use Rattle.kernel.specs.View.{viewOf}
-use Rattle.kernel.specs.Promises.{Begins, Enters}
+use Rattle.kernel.specs.Promises.{Begins, Enters, Does}
 use Rattle.laws.specs.Runs.{saidBy}
-use Rattle.laws.specs.Starred.{Item, Step, unit, entries, enterAll, bench, run, starred}
+use Rattle.laws.specs.Starred.{Item, does, count, buffer, asks, Step, unit, entries, enterAll, bench, run, starred}
 use Rattle.laws.specs.Made.{EntersAll, none, one, Shown, shownOf, restarted, answered, counted, buffered, judged, Makes, end, restarts, calls, looks, reads, judges}
 use Rattle.laws.proofs.Starred.{starred-runs}
 
@@ -63,3 +67,38 @@ pub starred-made : {s : State} {r₀ r : Entered} {rs : List Shown} → Begins (
 starred-made b e g m =
     let z = is-bench b e g in
     made z m ∙ ap (λ (x : Model.State). map shownOf (run x (map (λ (y : Step). y .item) starred))) z ∙ ap (map shownOf) starred-runs
+
+-- ---- the same in numbers: of a call its code, its word and the released task
+abbrev code : ℤ → ℕ → ℕ → Shown
+code z w t = answered (record { outcome = Outcome.Code z; word = w; released = record { task = t; word = 0 } })
+
+abbrev plain : ℤ → Shown
+plain z = code z 0 0
+
+abbrev waiting : Shown
+waiting = answered (record { outcome = Outcome.Waiting; word = 0; released = record { task = 0; word = 0 } })
+
+pub starred-in-numbers : {s : State} {r₀ r : Entered} {rs : List Shown} → Begins (pos 2) unit r₀ → EntersAll (r₀ .state) entries s → Enters s (close (viewOf s)) r
+    → Makes (r .state) (r .state) (map (λ (x : Step). x .item) starred) rs
+    → rs ≡ restarted ∷ plain (pos 0) ∷ plain (negℤ (pos 50)) ∷ waiting ∷ plain (negℤ (pos 27)) ∷ plain (pos 0) ∷ code (pos 0) 0 1 ∷ counted 0 ∷ plain (pos 0) ∷ plain (pos 0) ∷ plain (negℤ (pos 43))
+    ∷ restarted ∷ plain (negℤ (pos 27)) ∷ plain (pos 0) ∷ plain (pos 0) ∷ plain (negℤ (pos 50)) ∷ waiting ∷ code (pos 0) 700 1 ∷ buffered (701 ∷ 702 ∷ [])
+    ∷ plain (negℤ (pos 50)) ∷ waiting ∷ code (pos 0) 5 2
+    ∷ judged (pos 0) ∷ judged (negℤ (pos 41)) ∷ judged (negℤ (pos 26)) ∷ []
+starred-in-numbers b e g m = starred-made b e g m
+
+-- ---- nothing is left out: whatever an entry, a call and a verdict answer, and whatever a query tells
+pub every-entry : (s : State) (i : Entry) (r : Entered) → Enters s (enter (viewOf s) i) r → (l : List Entry) (s′ : State) → EntersAll (r .state) l s′ → EntersAll s (i ∷ l) s′
+every-entry s i r g l s′ e = one s i r g l s′ e
+
+module _ (table s : State) (l : List Item) (rs : List Shown) where
+  pub every-call : (t : ℕ) (op : Op) (r : Answer) → Does s (call (pos t) op) r → Makes table (r .state) l rs → Makes table s (does t op ∷ l) (answered (record { outcome = r .outcome; word = r .word; released = r .released }) ∷ rs)
+  every-call t op r d m = calls s t op r d l rs m
+
+  pub every-look : (i : ℕ) → Makes table s l rs → Makes table s (count i ∷ l) (counted (semAt (viewOf s) i .count) ∷ rs)
+  every-look i m = looks s i (semAt (viewOf s) i) refl l rs m
+
+  pub every-read : (q : ℕ) → Makes table s l rs → Makes table s (buffer q ∷ l) (buffered (queueAt (viewOf s) q .buffer) ∷ rs)
+  every-read q m = reads s q (queueAt (viewOf s) q .buffer) refl (λ k. refl) l rs m
+
+  pub every-verdict : (d b z w : ℕ) → Makes table s l rs → Makes table s (asks d b z w ∷ l) (judged (resultOf (verdict (viewOf s) (pos d) b z w)) ∷ rs)
+  every-verdict d b z w m = judges s d b z w (resultOf (verdict (viewOf s) (pos d) b z w)) refl l rs m

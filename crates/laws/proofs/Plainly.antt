@@ -1,0 +1,143 @@
+-- What the claims about runs say, in plain facts: whatever the run, the task, the object and the word. Assumes nothing.
+use Prim.Native.Nat.{ℕ, suc, _≤_}
+use native.Mathlib.Omega.{arith}
+use mathlib.Core.Path.{_≡_, refl, sym, ap, _∙_, subst}
+use mathlib.Core.Logic.{inl, inr}
+use mathlib.Core.Bool.{Bool, true, false}
+use mathlib.Core.List.{List, [], _∷_, _++_}
+use mathlib.Core.Option.{some}
+use lib.IntN.{ℤ, pos, negsuc, negℤ}
+use lib.ListN.{length, drop}
+use Rattle.access.specs.Patterns.{admitted}
+use Rattle.access.proofs.Laws.{kernel-always, zeros-kernel-only}
+use Rattle.itron.specs.Codes.{Code, ok, waiting}
+use Rattle.model.specs.State.{Place, Waiter, place, domainAt, no}
+use Rattle.model.specs.Answers.{outcomeOf}
+use Rattle.model.specs.Waits.{waitersAt}
+use Rattle.model.specs.Acts.{Act, own}
+use Rattle.model.specs.declared.Outcome.the-variants as Outcome
+use Rattle.model.specs.declared.Patience.{Patience}
+use Rattle.model.specs.declared.Side.the-variants.{OnSem as onSem, Receiving as receiving, Sending as sending}
+use Rattle.model.specs.declared.sem.SemaphoreCall.{SemaphoreCall}
+use Rattle.model.specs.declared.sem.SemaphoreCall.the-variants.{Signal as signal}
+use Rattle.model.specs.declared.dtq.QueueCall.{QueueCall}
+use Rattle.model.specs.declared.dtq.QueueCall.the-variants.{Send as send, Receive as receive}
+use Rattle.model.specs.Calls.{onSemaphore, onQueue, Call, call, step}
+use Rattle.model.specs.Lists.{Some, total}
+use Rattle.model.specs.History.{event, after, history}
+use Rattle.model.specs.Demand3.{Demand3}
+use Rattle.model.specs.Turns.{countIf, countAt, serves}
+use Rattle.model.specs.Denials.{Ready, InRange, There, patternSince}
+use Rattle.model.proofs.Lists.{no-both}
+use Rattle.model.proofs.WaitQueues as WaitQueues
+use Rattle.model.proofs.Numbers.{apart}
+use Rattle.model.proofs.OneMore.{held, did, word-waits, word-taken}
+use Rattle.kernel.specs.declared.state.State.{State}
+use Rattle.kernel.specs.declared.state.Answer.{Answer}
+use Rattle.kernel.specs.View.{viewOf}
+use Rattle.kernel.specs.Promises.{Does}
+use Rattle.laws.specs.Runs.{Built, taken, Said, saidIn, Ran}
+use Rattle.laws.specs.Claims.{Whole, TakesTurns, DeniesExactly}
+
+-- ---- "Which calls are accepted, grant or hand out a word is what demand 2 gives from the table and the calls alone"
+pub alike : {s₀ s s′ : State} {cs : List Call} {l l′ : List Said} → Whole s₀ s cs l → Whole s₀ s′ cs l′ → (viewOf s ≡ viewOf s′) × (l ≡ l′)
+alike w x = (w .state ∙ sym (x .state), w .answers ∙ sym (x .answers))
+
+-- ---- no word is lost, by what the program answered: after the calls cs the state s and the answers l, with one call more s′ and the answer x too
+module _ (s₀ s s′ : State) (cs : List Call) (l : List Said) (x : Said) (t n : ℤ) (p : Patience) where
+  -- the answer's code is the one that the rules give
+  answer-is : (c : Call) → Whole s₀ s′ (c ∷ cs) (x ∷ l) → x ≡ saidIn (event (after (viewOf s₀) cs) c)
+  unfolding history
+  answer-is c w = let e = w .answers in cc
+
+  -- a send that waits: its word is held, as the last
+  pub waiting-word-held : (w : ℕ) → Whole s₀ s cs l → Whole s₀ s′ (call t (onQueue n (own (send p w))) ∷ cs) (x ∷ l) → x .reply .outcome ≡ Outcome.Waiting
+      → held (viewOf s′) (no n) ≡ held (viewOf s) (no n) ++ (w ∷ [])
+  unfolding history
+  waiting-word-held w d d′ o =
+      let m = viewOf s₀ in
+      let c = call t (onQueue n (own (send p w))) in
+      let a = step (after m cs) c .answer in
+      let k : a .code ≡ waiting = apart (a .code) waiting (sym (ap (λ (y : Said). y .reply .outcome) (answer-is c d′)) ∙ o) in
+      word-waits m (viewOf s) (viewOf s′) (after m cs) (history m cs) t (a .word) (a .info) n p w (a .released)
+      (d .demand, subst (λ (k : Code). Demand3 m (did m m m (after m cs) (history m cs) t (a .word) (a .info) (c .op) k (a .released) ∷ history m cs) (viewOf s′)) k (d′ .demand))
+
+  -- a receive answered E_OK (0): its word is the first that was held, and is held no longer
+  pub first-word-given : Whole s₀ s cs l → Whole s₀ s′ (call t (onQueue n (own (receive p))) ∷ cs) (x ∷ l) → x .reply .outcome ≡ Outcome.Code (pos 0)
+      → x .reply .word ∷ held (viewOf s′) (no n) ≡ held (viewOf s) (no n)
+  unfolding history
+  first-word-given d d′ o =
+      let m = viewOf s₀ in
+      let c = call t (onQueue n (own (receive p))) in
+      let a = step (after m cs) c .answer in
+      let z = answer-is c d′ in
+      let k : a .code ≡ ok = apart (a .code) ok (sym (ap (λ (y : Said). y .reply .outcome) z) ∙ o) in
+      ap (λ (y : Said). y .reply .word ∷ held (viewOf s′) (no n)) z
+      ∙ word-taken m (viewOf s) (viewOf s′) (after m cs) (history m cs) t (a .word) (a .info) n p (a .released)
+      (d .demand, subst (λ (k : Code). Demand3 m (did m m m (after m cs) (history m cs) t (a .word) (a .info) (c .op) k (a .released) ∷ history m cs) (viewOf s′)) k (d′ .demand))
+
+-- ---- taking turns: e waits at a place with the tasks `ahead` before it, and the calls cs follow
+module _ (s₁ : State) (e : Waiter) (ahead : List Waiter) (cs : List Call) (s : State) (l : List Said) (h : Ran s₁ cs s l) where
+  -- as many calls of the opposite kind were accepted as there were tasks ahead
+  abbrev Due : Place → Type 0
+  Due p = total (serves p) (history (viewOf s₁) cs) ≡ length ahead
+
+  drop-all : (a : List Waiter) → drop (length a) a ≡ []
+  drop-all [] = refl
+  drop-all (x ∷ a) = drop-all a
+
+  stands : (a b : List Waiter) → Some (λ (x : Waiter). x ≡ e) (a ++ e ∷ b)
+  stands [] b = inl refl
+  stands (x ∷ a) b = inr (stands a b)
+
+  -- until then it waits there, then it stands first
+  pub waits-still : (p : Place) → TakesTurns s₁ p e ahead → total (serves p) (history (viewOf s₁) cs) ≤ length ahead → Some (λ (x : Waiter). x ≡ e) (waitersAt (viewOf s) p)
+  waits-still p t n = let x = t .still cs s l h n in subst (Some (λ (y : Waiter). y ≡ e)) (sym (x .1)) (stands (drop (total (serves p) (history (viewOf s₁) cs)) ahead) (x .0))
+
+  pub stands-first : (p : Place) → TakesTurns s₁ p e ahead → Due p → (m : List Waiter) × (waitersAt (viewOf s) p ≡ e ∷ m)
+  stands-first p t n = let x = t .still cs s l h (omega arith) in (x .0, x .1 ∙ ap (λ (a : List Waiter). a ++ e ∷ x .0) (ap (λ (k : ℕ). drop k ahead) n ∙ drop-all ahead))
+
+  -- and the next accepted one releases it: a signal, a send, a receive
+  module _ (t n : ℤ) (r : Answer) where
+    code-is : (c : Call) (k : Code) → Does s c r → r .outcome ≡ outcomeOf k → step (viewOf s) c .answer .code ≡ k
+    code-is c k d o = apart _ k (sym (ap (λ (y : Answer). y .outcome) (d .same)) ∙ o)
+
+    at-place : (p : Place) → countAt p (some p) ≡ 1
+    at-place p = ap countIf (WaitQueues.alike p)
+
+    pub signal-releases : TakesTurns s₁ (place onSem (no n)) e ahead → Due (place onSem (no n)) → Does s (call t (onSemaphore n (own signal))) r → r .outcome ≡ Outcome.Code (pos 0) → r .released .task ≡ e .task
+    signal-releases u z d o = u .served cs s l h z _ r d (rw (code-is _ ok d o) (at-place (place onSem (no n))))
+
+    pub send-releases : (p : Patience) (w : ℕ) → TakesTurns s₁ (place receiving (no n)) e ahead → Due (place receiving (no n)) → Does s (call t (onQueue n (own (send p w)))) r → r .outcome ≡ Outcome.Code (pos 0) → r .released .task ≡ e .task
+    send-releases p w u z d o = u .served cs s l h z _ r d (rw (code-is _ ok d o) (at-place (place receiving (no n))))
+
+    pub receive-releases : (p : Patience) → TakesTurns s₁ (place sending (no n)) e ahead → Due (place sending (no n)) → Does s (call t (onQueue n (own (receive p)))) r → r .outcome ≡ Outcome.Code (pos 0) → r .released .task ≡ e .task
+    receive-releases p u z d o = u .served cs s l h z _ r d (rw (code-is _ ok d o) (at-place (place sending (no n))))
+
+-- ---- who gets E_OACV (-27)
+module _ {t : State} {b : Built t} {s₀ s : State} {cs : List Call} {c : Call} {r : Answer} (d : DeniesExactly b s₀ s cs c r) where
+  abbrev Denied : Type 0
+  Denied = r .outcome ≡ Outcome.Code (negℤ (pos 27))
+
+  abbrev patternThen : ℕ
+  patternThen = patternSince (taken b) (history (viewOf s₀) cs) (c .op)
+
+  -- "The kernel domain is always admitted"
+  pub kernel-never-denied : domainAt (viewOf s) (no (c .caller)) ≡ negsuc 0 → Denied → ⊥
+  kernel-never-denied k o = no-both (ap (admitted patternThen) k ∙ kernel-always patternThen) (d .only o .denied)
+
+  -- "Giving E_OACV for a number that isn't registered" is a slip
+  pub denied-registered : (n : ℤ) → ((a : Act SemaphoreCall) → c .op ≡ onSemaphore n a → Denied → no n ≤ length (viewOf s .sems)) × ((a : Act QueueCall) → c .op ≡ onQueue n a → Denied → no n ≤ length (viewOf s .queues))
+  denied-registered n = ((λ a e o. subst (There (viewOf s)) e (d .only o .there)), (λ a e o. subst (There (viewOf s)) e (d .only o .there)))
+
+  -- nor is it given to a task that waits
+  pub denied-ready : Denied → Ready (viewOf s) (no (c .caller))
+  denied-ready o = d .only o .ready
+
+  -- "All zeros is kernel only": a user domain's call on a registered object whose pattern is 0 then is denied
+  pub zeros-deny : (k : ℕ) → domainAt (viewOf s) (no (c .caller)) ≡ pos (suc k) → patternThen ≡ 0 → Ready (viewOf s) (no (c .caller)) → InRange (viewOf s) (c .op) → There (viewOf s) (c .op) → Denied
+  zeros-deny k e z y i j = d .always (record { ready = y; numbered = i; there = j; denied = ap (λ (p : ℕ). admitted p (domainAt (viewOf s) (no (c .caller)))) z ∙ ap (admitted 0) e ∙ go (admitted 0 (pos (suc k))) refl })
+    where
+      go : (x : Bool) → admitted 0 (pos (suc k)) ≡ x → x ≡ false
+      go true q = let f : pos (suc k) ≡ negsuc 0 = zeros-kernel-only (pos (suc k)) q in cc
+      go false q = refl
