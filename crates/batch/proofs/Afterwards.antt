@@ -6,7 +6,7 @@ use lib.ListN.{length, drop, length-append}
 use Rattle.model.specs.Lists.{words}
 use Rattle.model.specs.QueueClaims.{byQueue, sent, handed}
 use Rattle.model.specs.Demand3.{JustClosed}
-use Rattle.model.proofs.OneMore.{held}
+use Rattle.model.proofs.Increments.{held}
 use Rattle.kernel.specs.declared.state.State.{State}
 use Rattle.kernel.specs.View.{viewOf}
 use Rattle.kernel.proofs.Back.{faithful}

@@ -9,7 +9,7 @@ use mathlib.Core.Option.{Option, none, some}
 use lib.IntN.{ℤ, pos, negsuc, negℤ}
 use Rattle.access.specs.Vectors.{privateOf}
 use Rattle.itron.specs.Codes.{Err}
-use Rattle.itron.specs.Limits.{minUnit}
+use Rattle.itron.specs.Limits.{maxDomains, minUnit}
 use Rattle.model.specs.State as Model
 use Rattle.model.specs.Answers.{Out, codeOf, whenOk}
 use Rattle.model.specs.Table.{Entry, task, fresh, checkEntry, enter, enterBy, close}
@@ -34,8 +34,8 @@ use Rattle.laws.proofs.Runs.{whole}
 pub every-fresh : (n : ℤ) (unit : ℕ) (r : Entered) → Begins n unit r → Built (r .state)
 every-fresh n unit r g = begun n unit r g
 
--- n = 0 to 32 is answered E_OK (0), a higher or lower number E_PAR (-17)
-pub fresh-codes : (n : ℕ) (r : Entered) → (Begins (pos n) minUnit r → n ≤ 32 → r .code ≡ pos 0) × (Begins (pos n) minUnit r → 32 < n → r .code ≡ negℤ (pos 17)) × (Begins (negsuc n) minUnit r → r .code ≡ negℤ (pos 17))
+-- n from 0 to its limit is answered E_OK (0), a higher or lower number E_PAR (-17)
+pub fresh-codes : (n : ℕ) (r : Entered) → (Begins (pos n) minUnit r → n ≤ maxDomains → r .code ≡ pos 0) × (Begins (pos n) minUnit r → maxDomains < n → r .code ≡ negℤ (pos 17)) × (Begins (negsuc n) minUnit r → r .code ≡ negℤ (pos 17))
 fresh-codes n r = (
   (λ g h. ap (λ (x : Entered). x .code) (g .same) ∙ ap codeOf (fresh-takes n minUnit h (0, (omega arith, refl)) .0)),
   (λ g h. ap (λ (x : Entered). x .code) (g .same) ∙ ap codeOf (fresh-above n minUnit h .0)),

@@ -31,7 +31,7 @@ use Rattle.model.specs.Denials.{Ready, InRange, There, patternSince}
 use Rattle.model.proofs.Lists.{no-both}
 use Rattle.model.proofs.WaitQueues as WaitQueues
 use Rattle.model.proofs.Numbers.{apart}
-use Rattle.model.proofs.OneMore.{held, did, word-waits, word-taken}
+use Rattle.model.proofs.Increments.{held, did, word-waits, word-taken}
 use Rattle.kernel.specs.declared.state.State.{State}
 use Rattle.kernel.specs.declared.state.Answer.{Answer}
 use Rattle.kernel.specs.View.{viewOf}

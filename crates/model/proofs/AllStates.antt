@@ -6,25 +6,18 @@ use mathlib.Core.List.{List, [], _∷_, _++_}
 use Prim.Native.Nat.{ℕ, zero, suc, _+_, _^_, _≤_, _∣_}
 use lib.IntN.{ℤ, pos, negsuc}
 use lib.ListN.{length}
-use Rattle.model.specs.Lists.{All}
+use Rattle.itron.specs.Limits.{maxDomains, maxTasks, maxSemaphores, maxQueues, maxRegions, maxWords, maxCount, maxCapacity, addressEnd, maxUnitPower}
 use Rattle.model.specs.State.{Sem, Queue, Region, Waiter, Side, onSem, receiving, sending, State, place, waiter, semAt, queueAt}
 use Rattle.model.specs.Waits.{waitersAt, senders, receivers, isOther, absent}
 use Rattle.model.specs.Queues.{wordsUsed}
 use Rattle.model.specs.Conditions.{Distinct, Known, WordFits, Plain, BufferFits, Bounded, Ascending, Whole, TaskOwner, Owner, SemEntryFits, QueueEntryFits, RegionEntryFits, sideCount, Registered, NoWords, Sound}
 use Rattle.model.proofs.Units.{unit-tells}
+use Rattle.model.proofs.Places.{all-each}
 use Rattle.model.proofs.Lists.{cons-ne, no-both, eqb-same, and-left, and-right}
-
--- one element of a list of which something holds throughout
-some-one : {A : Type 0} (P : A → Type 0) (l a : List A) (x : A) (b : List A) → l ≡ a ++ x ∷ b → All P l → P x
-some-one P l a x b e k = go a (subst (All P) e k)
-  where
-    go : (a : List _) → All P (a ++ x ∷ b) → P x
-    go [] k = k .0
-    go (y ∷ a) k = go a (k .1)
 
 module _ (s : State) (k : Sound s) where
   -- ---- the sizes
-  pub sizes : (s .fixed .count ≤ 32) × (length (s .fixed .domains) ≤ 255) × (length (s .sems) ≤ 64) × (length (s .queues) ≤ 16) × (length (s .fixed .regions) ≤ 64) × (wordsUsed (s .queues) ≤ 2048)
+  pub sizes : (s .fixed .count ≤ maxDomains) × (length (s .fixed .domains) ≤ maxTasks) × (length (s .sems) ≤ maxSemaphores) × (length (s .queues) ≤ maxQueues) × (length (s .fixed .regions) ≤ maxRegions) × (wordsUsed (s .queues) ≤ maxWords)
   sizes = (k .entries .domains, k .fit .waits .tasks, k .fit .sems, k .fit .queues .few, k .fit .regions .few, k .fit .queues .words)
 
   -- ---- semaphores: the count is at most max, and 0 where somebody waits
@@ -56,14 +49,14 @@ module _ (s : State) (k : Sound s) where
   -- ---- who waits: a registered task, at a registered object, and no task twice
   pub waiter-registered : (a : List Waiter) (e : Waiter) (b : List Waiter) → s .waits ≡ a ++ e ∷ b → (e .task ≢ 0) × (e .task ≤ length (s .fixed .domains)) × (e .place .number ≢ 0)
   waiter-registered a e b h =
-      let t = some-one (Known (length (s .fixed .domains))) (s .waits) a e b h (k .fit .waits .known) in
-      (t .0, t .1, some-one Plain (s .waits) a e b h (k .fit .waits .plain) .0)
+      let t = all-each (Known (length (s .fixed .domains))) (s .waits) a b e h (k .fit .waits .known) in
+      (t .0, t .1, all-each Plain (s .waits) a b e h (k .fit .waits .plain) .0)
 
   pub place-registered : (a : List Waiter) (t n w : ℕ) (d : Side) (b : List Waiter) → s .waits ≡ a ++ waiter t d n w ∷ b
       → (d ≡ onSem → (n ≤ length (s .sems)) × (w ≡ 0)) × (d ≡ receiving → (n ≤ length (s .queues)) × (w ≡ 0)) × (d ≡ sending → n ≤ length (s .queues))
   place-registered a t n w d b h =
-      let r = some-one (Registered s) (s .waits) a (waiter t d n w) b h (k .registered) in
-      let p = some-one Plain (s .waits) a (waiter t d n w) b h (k .fit .waits .plain) .1 in (
+      let r = all-each (Registered s) (s .waits) a b (waiter t d n w) h (k .registered) in
+      let p = all-each Plain (s .waits) a b (waiter t d n w) h (k .fit .waits .plain) .1 in (
         (λ e. (subst (λ (x : Side). n ≤ sideCount s x) e r, subst (λ (x : Side). WordFits x w) e p)),
         (λ e. (subst (λ (x : Side). n ≤ sideCount s x) e r, subst (λ (x : Side). WordFits x w) e p)),
         (λ e. subst (λ (x : Side). n ≤ sideCount s x) e r),
@@ -86,7 +79,7 @@ module _ (s : State) (k : Sound s) where
   Owned d = (d ≡ negsuc 0) ⊎ ((j : ℕ) × ((d ≡ pos (suc j)) × (suc j ≤ s .fixed .count)))
 
   pub task-owned : (a : List ℤ) (d : ℤ) (b : List ℤ) → s .fixed .domains ≡ a ++ d ∷ b → Owned d
-  task-owned a d b h = go d (some-one (TaskOwner (s .fixed .count)) (s .fixed .domains) a d b h (k .entries .tasks))
+  task-owned a d b h = go d (all-each (TaskOwner (s .fixed .count)) (s .fixed .domains) a b d h (k .entries .tasks))
     where
       go : (d : ℤ) → TaskOwner (s .fixed .count) d → Owned d
       go (pos zero) o = absurd (o .0 refl)
@@ -101,18 +94,18 @@ module _ (s : State) (k : Sound s) where
   owner (negsuc (suc zero)) o = inl refl
   owner (negsuc (suc (suc j))) o = absurd o
 
-  pub semaphore-entered : (a : List Sem) (x : Sem) (b : List Sem) → s .sems ≡ a ++ x ∷ b → ((x .domain ≡ negsuc 1) ⊎ Owned (x .domain)) × (x .attribute ≡ 0) × (1 ≤ x .max) × (x .max ≤ 65535)
-  semaphore-entered a x b h = let f = some-one (SemEntryFits (s .fixed .count)) (s .sems) a x b h (k .entries .sems) in (owner (x .domain) (f .0), f .1, f .2, f .3)
+  pub semaphore-entered : (a : List Sem) (x : Sem) (b : List Sem) → s .sems ≡ a ++ x ∷ b → ((x .domain ≡ negsuc 1) ⊎ Owned (x .domain)) × (x .attribute ≡ 0) × (1 ≤ x .max) × (x .max ≤ maxCount)
+  semaphore-entered a x b h = let f = all-each (SemEntryFits (s .fixed .count)) (s .sems) a b x h (k .entries .sems) in (owner (x .domain) (f .0), f .1, f .2, f .3)
 
-  pub queue-entered : (a : List Queue) (x : Queue) (b : List Queue) → s .queues ≡ a ++ x ∷ b → ((x .domain ≡ negsuc 1) ⊎ Owned (x .domain)) × (x .attribute ≡ 0) × (x .capacity ≤ 256) × (length (x .buffer) ≤ x .capacity)
-  queue-entered a x b h = let f = some-one (QueueEntryFits (s .fixed .count)) (s .queues) a x b h (k .entries .queues) in (owner (x .domain) (f .0), f .1, f .2, some-one BufferFits (s .queues) a x b h (k .fit .queues .buffers))
+  pub queue-entered : (a : List Queue) (x : Queue) (b : List Queue) → s .queues ≡ a ++ x ∷ b → ((x .domain ≡ negsuc 1) ⊎ Owned (x .domain)) × (x .attribute ≡ 0) × (x .capacity ≤ maxCapacity) × (length (x .buffer) ≤ x .capacity)
+  queue-entered a x b h = let f = all-each (QueueEntryFits (s .fixed .count)) (s .queues) a b x h (k .entries .queues) in (owner (x .domain) (f .0), f .1, f .2, all-each BufferFits (s .queues) a b x h (k .fit .queues .buffers))
 
   pub region-entered : (a : List Region) (x : Region) (b : List Region) → s .fixed .regions ≡ a ++ x ∷ b
-      → ((x .domain ≡ negsuc 1) ⊎ Owned (x .domain)) × ((((x .attribute ≡ 0) ⊎ (x .attribute ≡ 1)) ⊎ (x .attribute ≡ 4)) ⊎ (x .attribute ≡ 5)) × (1 ≤ x .size) × (x .base + x .size ≤ 4294967296) × (s .fixed .unit ∣ x .base) × (s .fixed .unit ∣ x .size)
+      → ((x .domain ≡ negsuc 1) ⊎ Owned (x .domain)) × ((((x .attribute ≡ 0) ⊎ (x .attribute ≡ 1)) ⊎ (x .attribute ≡ 4)) ⊎ (x .attribute ≡ 5)) × (1 ≤ x .size) × (x .base + x .size ≤ addressEnd) × (s .fixed .unit ∣ x .base) × (s .fixed .unit ∣ x .size)
   region-entered a x b h =
-      let f = some-one (RegionEntryFits (s .fixed .count)) (s .fixed .regions) a x b h (k .entries .regions) in
-      let z = some-one Bounded (s .fixed .regions) a x b h (k .fit .regions .bounded) in
-      let u = some-one (Whole (s .fixed .unit)) (s .fixed .regions) a x b h (k .unit .whole) in
+      let f = all-each (RegionEntryFits (s .fixed .count)) (s .fixed .regions) a b x h (k .entries .regions) in
+      let z = all-each Bounded (s .fixed .regions) a b x h (k .fit .regions .bounded) in
+      let u = all-each (Whole (s .fixed .unit)) (s .fixed .regions) a b x h (k .unit .whole) in
       (owner (x .domain) (f .0), f .1, z .0, z .1, u .0, u .1)
 
   -- none starts below the end of the one before it
@@ -124,10 +117,10 @@ module _ (s : State) (k : Sound s) where
       go (z ∷ []) j = j .1 .0
       go (z ∷ (w ∷ a)) j = go (w ∷ a) (j .1)
 
-  -- the unit is a power of two up to 65,536
-  pub unit-power : (e : ℕ) × ((e ≤ 16) × (s .fixed .unit ≡ 2 ^ e))
+  -- the unit is a power of two up to its limit
+  pub unit-power : (e : ℕ) × ((e ≤ maxUnitPower) × (s .fixed .unit ≡ 2 ^ e))
   unit-power = unit-tells (s .fixed .unit) .yes (k .unit .power)
 
   -- ---- before the closing nobody waits and nothing is buffered
   pub open-quiet : s .fixed .closed ≡ false → (s .waits ≡ []) × ((a : List Queue) (x : Queue) (b : List Queue) → s .queues ≡ a ++ x ∷ b → x .buffer ≡ [])
-  open-quiet o = (k .quiet o, (λ a x b h. some-one NoWords (s .queues) a x b h (k .empty o)))
+  open-quiet o = (k .quiet o, (λ a x b h. all-each NoWords (s .queues) a b x h (k .empty o)))

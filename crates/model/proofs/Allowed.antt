@@ -22,12 +22,9 @@ use Rattle.model.specs.QueueClaims.{askedOf, byQueue, began, IsReceive, 
 use Rattle.model.specs.Releases.{servedBy, WaitsAt, WaitsNot, EndsWait, ReleasesWaiters}
 use Rattle.model.specs.Demand3.{Demand3}
 use Rattle.model.proofs.Lists.{eq-of, eqb-same, eqb-no}
+use Rattle.model.proofs.Places.{all-each}
 
--- ---- a claim about every element holds of one, wherever it stands
-all-at : {A : Type 0} (P : A → Type 0) (l : List A) (x : A) (m : List A) → All P (l ++ x ∷ m) → P x
-all-at P [] x m k = k .0
-all-at P (y ∷ l) x m k = all-at P l x m (k .1)
-
+-- ---- a claim about every element and what was before it holds of one, wherever it stands
 each-at : {A : Type 0} (P : A → List A → Type 0) (l : List A) (x : A) (m : List A) → Each P (l ++ x ∷ m) → P x m
 each-at P [] x m k = k .0
 each-at P (y ∷ l) x m k = each-at P l x m (k .1)
@@ -127,7 +124,7 @@ module _ (s₀ s found : State) (later h : History) (t n : ℤ) (a : Answer) whe
   -- a task that a send releases: its newest call that answered "waiting" was a receive from this queue, by a domain that normal operation 2 admitted then
   module _ (p : Patience) (w : ℕ) (k : a .code ≡ ok) (before behind : List Released) (r : Released) (rs : a .released ≡ before ++ r ∷ behind) (d : Claimed (onQueue n (own (send p w)))) where
     came : Came (domainAt s₀) (queueAt s₀ (no n) .vector) (r .task) (byQueue (no n) h)
-    came = all-at Arrived before r behind (subst (All Arrived) rs (taken (own (send p w)) d k))
+    came = all-each Arrived (a .released) before behind r rs (taken (own (send p w)) d k)
       where
         Arrived : Released → Type 0
         Arrived y = Came (domainAt s₀) (queueAt s₀ (no n) .vector) (y .task) (byQueue (no n) h)
@@ -147,7 +144,7 @@ module _ (s₀ s₁ s₂ s found : State) (later h : History) (t n : ℤ) (a : A
   released op = record { before = found; call = call t op; answer = a }
 
   ends : (op : Op) → Demand3 s₀ (later ++ released op ∷ h) s → EndsWait (released op) h r
-  ends op d = all-at (EndsWait (released op) h) before r behind (subst (All (EndsWait (released op) h)) rs (each-at ReleasesWaiters later (released op) h (d .releases)))
+  ends op d = all-each (EndsWait (released op) h) (a .released) before behind r rs (each-at ReleasesWaiters later (released op) h (d .releases))
 
   -- it waited there
   abbrev Waited : Side → Type 0

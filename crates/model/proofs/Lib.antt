@@ -34,6 +34,6 @@ pub mod Merged
 pub mod Entries
 pub mod Owners
 pub mod Refuted
-pub mod OneMore
+pub mod Increments
 pub mod Allowed
 pub mod AllStates
