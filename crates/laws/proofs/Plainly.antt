@@ -8,6 +8,7 @@ use mathlib.Core.List.{List, [], _∷_, _++_}
 use mathlib.Core.Option.{some}
 use lib.IntN.{ℤ, pos, negsuc, negℤ}
 use lib.ListN.{length, drop}
+use lib.Seq.{drop-length}
 use Rattle.access.specs.Patterns.{admitted}
 use Rattle.access.proofs.Laws.{kernel-always, zeros-kernel-only}
 use Rattle.itron.specs.Codes.{Code, ok, waiting}
@@ -82,10 +83,6 @@ module _ (s₁ : State) (e : Waiter) (ahead : List Waiter) (cs : List Call) (s :
   abbrev Due : Place → Type 0
   Due p = total (serves p) (history (viewOf s₁) cs) ≡ length ahead
 
-  drop-all : (a : List Waiter) → drop (length a) a ≡ []
-  drop-all [] = refl
-  drop-all (x ∷ a) = drop-all a
-
   stands : (a b : List Waiter) → Some (λ (x : Waiter). x ≡ e) (a ++ e ∷ b)
   stands [] b = inl refl
   stands (x ∷ a) b = inr (stands a b)
@@ -95,7 +92,7 @@ module _ (s₁ : State) (e : Waiter) (ahead : List Waiter) (cs : List Call) (s :
   waits-still p t n = let x = t .still cs s l h n in subst (Some (λ (y : Waiter). y ≡ e)) (sym (x .1)) (stands (drop (total (serves p) (history (viewOf s₁) cs)) ahead) (x .0))
 
   pub stands-first : (p : Place) → TakesTurns s₁ p e ahead → Due p → (m : List Waiter) × (waitersAt (viewOf s) p ≡ e ∷ m)
-  stands-first p t n = let x = t .still cs s l h (omega arith) in (x .0, x .1 ∙ ap (λ (a : List Waiter). a ++ e ∷ x .0) (ap (λ (k : ℕ). drop k ahead) n ∙ drop-all ahead))
+  stands-first p t n = let x = t .still cs s l h (omega arith) in (x .0, x .1 ∙ ap (λ (a : List Waiter). a ++ e ∷ x .0) (ap (λ (k : ℕ). drop k ahead) n ∙ drop-length ahead))
 
   -- and the next accepted one releases it: a signal, a send, a receive
   module _ (t n : ℤ) (r : Answer) where

@@ -8,7 +8,7 @@ use Prim.Native.Nat.{ℕ, _+_, _≤_}
 use native.Mathlib.Nat.{add-zero}
 use native.Mathlib.Omega.{arith}
 use lib.ListN.{length, drop, length-drop}
-use lib.Seq.{drop-drop}
+use lib.Seq.{drop-drop, drop-length}
 use Rattle.itron.specs.Codes.{ok, waiting, error}
 use Rattle.model.specs.Lists.{consIf, total}
 use Rattle.model.specs.State.{Place, Waiter, State, setWaits, samePlace}
@@ -120,12 +120,8 @@ module _ (s : State) (d : Distinct (s .waits)) (p : Place) (e : Waiter) (ahead b
       i : Stands (after s cs) (total (serves p) (history s cs))
       i = still cs (omega arith)
 
-      drop-all : (l : List Waiter) → drop (length l) l ≡ []
-      drop-all [] = refl
-      drop-all (x ∷ l) = drop-all l
-
       none-left : drop (total (serves p) (history s cs)) ahead ≡ []
-      none-left = rw r (drop-all ahead)
+      none-left = rw r (drop-length ahead)
 
       go : Turn (after s cs) p e (i .0) (step (after s cs) c .state) (step (after s cs) c .answer) (serves p (event (after s cs) c)) → tasksOf (event (after s cs) c .answer .released) ≡ e .task ∷ []
       go (inl z) = z .2
