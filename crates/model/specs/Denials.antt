@@ -36,7 +36,7 @@ named s (onQueue n a) = record { number = n; most = maxQueues; registered = leng
 abbrev pub InRange : State → Op → Type 0
 InRange s op = (no (named s op .number) ≢ 0) × (no (named s op .number) ≤ named s op .most)
 
--- "Not registered"
+-- the object is registered, which is not so where the answer is E_NOEXS
 abbrev pub There : State → Op → Type 0
 There s op = no (named s op .number) ≤ named s op .registered
 
