@@ -3,7 +3,7 @@ use lib.IntN.{ℤ, pos, negsuc}
 
 -- the refusals
 pub data Err : Type 0 where
-  eRsatr ePar eId eCtx eMacv eOacv eNomem eNoid eObj eNoexs eQovr eTmout : Err
+  eRsatr ePar eId eCtx eMacv eOacv eIluse eNomem eNoid eObj eNoexs eQovr eTmout : Err
 
 -- what a call answers: done, "waiting" (which is not a refusal and has no number), or a refusal
 pub data Code : Type 0 where
@@ -22,6 +22,7 @@ numberOf eId = negsuc 17
 numberOf eCtx = negsuc 24
 numberOf eMacv = negsuc 25
 numberOf eOacv = negsuc 26
+numberOf eIluse = negsuc 27
 numberOf eNomem = negsuc 32
 numberOf eNoid = negsuc 33
 numberOf eObj = negsuc 40

@@ -13,6 +13,8 @@ pub const E_MACV: i32 = -26;
 
 pub const E_OACV: i32 = -27;
 
+pub const E_ILUSE: i32 = -28;
+
 pub const E_NOMEM: i32 = -33;
 
 pub const E_NOID: i32 = -34;

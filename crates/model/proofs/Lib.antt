@@ -13,6 +13,8 @@ pub mod Queues
 pub mod Cover
 pub mod Steps
 pub mod SemaphoreClaims
+pub mod Sends
+pub mod Placing
 pub mod QueueClaims
 pub mod Releases
 pub mod Demand3

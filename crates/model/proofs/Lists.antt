@@ -1,11 +1,11 @@
 -- Laws of the list functions, once for all. Assumes nothing.
 use mathlib.Core.Path.{_≡_, refl, sym, ap, _∙_, subst}
 use mathlib.Core.Logic.{_≢_}
-use mathlib.Core.Bool.{Bool, true, false, not, _&&_}
-use mathlib.Core.List.{List, [], _∷_, _++_}
+use mathlib.Core.Bool.{Bool, true, false, not, _&&_, _||_}
+use mathlib.Core.List.{List, [], _∷_, _++_, map, head-eq-of-cons-eq, tail-eq-of-cons-eq}
 use Prim.Native.Nat.{ℕ, zero, suc, _+_, _-_, _≤_, _<_}
 use native.Mathlib.Omega.{arith}
-use lib.ListN.{length, getD, set, length-set}
+use lib.ListN.{length, getD, set, take, drop, length-set}
 use lib.Seq.{getD-set-same, getD-set-other}
 use lib.Dec.{eqb, T, eqb→eq, eqb-refl}
 pub use Rattle.model.specs.Conditions.{Distinct}
@@ -123,6 +123,62 @@ module _ {A : Type 0} where
       go true false hb hc e = rw hc e
       go false true hb hc e = rw hb e
       go false false hb hc e = e
+
+  -- what passes neither test
+  pub keep-neither : (p r : A → Bool) (l : List A) → keep (λ x. not (p x)) (keep (λ x. not (r x)) l) ≡ keep (λ x. not (r x || p x)) l
+  keep-neither p r [] = refl
+  keep-neither p r (x ∷ l) = go (r x) (keep-neither p r l)
+    where
+      go : (b : Bool) → keep (λ y. not (p y)) (keep (λ y. not (r y)) l) ≡ keep (λ y. not (r y || p y)) l
+          → keep (λ y. not (p y)) (consIf (not b) x (keep (λ y. not (r y)) l)) ≡ consIf (not (b || p x)) x (keep (λ y. not (r y || p y)) l)
+      go true e = e
+      go false e = ap (consIf (not (p x)) x) e
+
+  -- where as many pass as there are, all do, and none of what does not
+  pub keep-length : (p : A → Bool) (l : List A) → length (keep p l) ≤ length l
+  keep-length p [] = omega arith
+  keep-length p (x ∷ l) = go (p x) (keep-length p l)
+    where
+      go : (b : Bool) → length (keep p l) ≤ length l → length (consIf b x (keep p l)) ≤ suc (length l)
+      go true h = omega arith
+      go false h = omega arith
+
+  pub keep-whole : (p : A → Bool) (l : List A) → length (keep p l) ≡ length l → keep p l ≡ l
+  keep-whole p [] h = refl
+  keep-whole p (x ∷ l) h = go (p x) h (keep-whole p l)
+    where
+      go : (b : Bool) → length (consIf b x (keep p l)) ≡ suc (length l) → (length (keep p l) ≡ length l → keep p l ≡ l) → consIf b x (keep p l) ≡ x ∷ l
+      go true e ih = ap (λ (m : List A). x ∷ m) (ih (omega (arith, e)))
+      go false e ih = absurd (omega (arith, e, keep-length p l))
+
+  pub keep-rest : (p : A → Bool) (l : List A) → length (keep (λ x. not (p x)) l) ≡ length l → keep p l ≡ []
+  keep-rest p [] h = refl
+  keep-rest p (x ∷ l) h = go (p x) h (keep-rest p l)
+    where
+      go : (b : Bool) → length (consIf (not b) x (keep (λ y. not (p y)) l)) ≡ suc (length l) → (length (keep (λ y. not (p y)) l) ≡ length l → keep p l ≡ []) → consIf b x (keep p l) ≡ []
+      go true e ih = absurd (omega (arith, e, keep-length (λ y. not (p y)) l))
+      go false e ih = ih (omega (arith, e))
+
+-- ---- map
+pub map-append : {A B : Type 0} (f : A → B) (l m : List A) → map f (l ++ m) ≡ map f l ++ map f m
+map-append f [] m = refl
+map-append f (x ∷ l) m = ap (λ k. f x ∷ k) (map-append f l m)
+
+pub map-keep : {A B : Type 0} (f : A → B) (p : B → Bool) (l : List A) → map f (keep (λ x. p (f x)) l) ≡ keep p (map f l)
+map-keep f p [] = refl
+map-keep f p (x ∷ l) = go (p (f x)) (map-keep f p l)
+  where
+    go : (b : Bool) → map f (keep (λ y. p (f y)) l) ≡ keep p (map f l) → map f (consIf b x (keep (λ y. p (f y)) l)) ≡ consIf b (f x) (keep p (map f l))
+    go true e = ap (λ k. f x ∷ k) e
+    go false e = e
+
+-- a list that is the map of another, in two parts
+pub map-parts : {A B : Type 0} (f : A → B) (a b : List B) (l : List A) → a ++ b ≡ map f l → (a ≡ map f (take (length a) l)) × (b ≡ map f (drop (length a) l))
+map-parts f [] b l h = (refl, h)
+map-parts f (y ∷ a) b [] h = absurd (cons-ne refl h)
+map-parts f (y ∷ a) b (x ∷ l) h =
+    let k = map-parts f a b l (tail-eq-of-cons-eq h) in
+    (λ i. head-eq-of-cons-eq h i ∷ k .0 i, k .1)
 
 -- ---- claims about every element
 module _ {A : Type 0} (P : A → Type 0) where

@@ -1,11 +1,11 @@
--- Document 01's numbers ("Codes a desk clerk sees") as its table prints them, in each place where the program shows one. Assumes nothing.
+-- Document 01's numbers ("Codes a desk clerk sees") as its table prints them, and request T-05's, in each place where the program shows one. Assumes nothing.
 use mathlib.Core.Path.{_≡_, refl, sym, ap, _∙_}
 use mathlib.Core.Bool.{cond}
 use mathlib.Core.Option.{none, some}
 use Prim.Native.Nat.{ℕ, _^_}
 use lib.Dec.{eqb}
 use lib.IntN.{ℤ, pos, negsuc, negℤ}
-use Rattle.itron.specs.Codes.{Err, eRsatr, ePar, eId, eCtx, eMacv, eOacv, eNomem, eNoid, eObj, eNoexs, eQovr, eTmout, Code, ok, waiting, error, numberOf}
+use Rattle.itron.specs.Codes.{Err, eRsatr, ePar, eId, eCtx, eMacv, eOacv, eIluse, eNomem, eNoid, eObj, eNoexs, eQovr, eTmout, Code, ok, waiting, error, numberOf}
 use Rattle.itron.specs.Limits.{addressEnd}
 use Rattle.model.specs.declared.Outcome.{Outcome}
 use Rattle.model.specs.declared.Outcome.the-variants as Outcome
@@ -24,14 +24,14 @@ pub record Numbered (e : Err) (n : ℕ) : Type 0 where
 abbrev Listed : Type 0
 Listed =
     Numbered eRsatr 11 × (Numbered ePar 17 × (Numbered eId 18 × (Numbered eCtx 25 × (Numbered eMacv 26 × (Numbered eOacv 27
-    × (Numbered eNomem 33 × (Numbered eNoid 34 × (Numbered eObj 41 × (Numbered eNoexs 42 × (Numbered eQovr 43 × Numbered eTmout 50))))))))))
+    × (Numbered eIluse 28 × (Numbered eNomem 33 × (Numbered eNoid 34 × (Numbered eObj 41 × (Numbered eNoexs 42 × (Numbered eQovr 43 × Numbered eTmout 50)))))))))))
 
 plainly : {e : Err} {n : ℕ} → numberOf e ≡ negℤ (pos n) → Numbered e n
 plainly h = record { shown = record { answered = ap Outcome.Code h; entered = h }; judged = h }
 
 -- the table of codes
 pub listed : Listed
-listed = (plainly refl, (plainly refl, (plainly refl, (plainly refl, (plainly refl, (plainly refl, (plainly refl, (plainly refl, (plainly refl, (plainly refl, (plainly refl, plainly refl)))))))))))
+listed = (plainly refl, (plainly refl, (plainly refl, (plainly refl, (plainly refl, (plainly refl, (plainly refl, (plainly refl, (plainly refl, (plainly refl, (plainly refl, (plainly refl, plainly refl))))))))))))
 
 pub done-is-0 : Shown ok (pos 0) × (resultOf none ≡ pos 0)
 done-is-0 = (record { answered = refl; entered = refl }, refl)
@@ -44,6 +44,7 @@ refusal-negative eId = (_, refl)
 refusal-negative eCtx = (_, refl)
 refusal-negative eMacv = (_, refl)
 refusal-negative eOacv = (_, refl)
+refusal-negative eIluse = (_, refl)
 refusal-negative eNomem = (_, refl)
 refusal-negative eNoid = (_, refl)
 refusal-negative eObj = (_, refl)
@@ -55,7 +56,7 @@ refusal-negative eTmout = (_, refl)
 abbrev refusalAt : ℕ → Err
 refusalAt k =
     cond (eqb k 10) eRsatr (cond (eqb k 16) ePar (cond (eqb k 17) eId (cond (eqb k 24) eCtx (cond (eqb k 25) eMacv (cond (eqb k 26) eOacv
-    (cond (eqb k 32) eNomem (cond (eqb k 33) eNoid (cond (eqb k 40) eObj (cond (eqb k 41) eNoexs (cond (eqb k 42) eQovr eTmout))))))))))
+    (cond (eqb k 27) eIluse (cond (eqb k 32) eNomem (cond (eqb k 33) eNoid (cond (eqb k 40) eObj (cond (eqb k 41) eNoexs (cond (eqb k 42) eQovr eTmout)))))))))))
 
 abbrev meant : Outcome → Code
 meant (Outcome.Code (pos n)) = ok
@@ -71,6 +72,7 @@ read-back (error eId) = refl
 read-back (error eCtx) = refl
 read-back (error eMacv) = refl
 read-back (error eOacv) = refl
+read-back (error eIluse) = refl
 read-back (error eNomem) = refl
 read-back (error eNoid) = refl
 read-back (error eObj) = refl

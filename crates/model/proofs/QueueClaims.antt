@@ -7,30 +7,33 @@ use mathlib.Core.Option.{Option, none, some}
 use Prim.Native.Nat.{ℕ, zero, suc}
 use native.Mathlib.Omega.{arith}
 use lib.ListN.{length, length-append}
-use lib.Dec.{eqb, T}
+use lib.Dec.{eqb, ltb, T}
 use lib.IntN.{ℤ, pos}
 use borrow.Author.Tests.{ltb-true}
 use Rattle.access.specs.Patterns.{admitted}
 use Rattle.itron.specs.Codes.{Code, ok, waiting, error}
-use Rattle.model.specs.Lists.{at, keep, consIf, All, Each, words}
+use Rattle.model.specs.Lists.{at, keep, consIf, anyOf, All, Each}
 use Rattle.model.specs.State.{Vector, Place, Fixed, Queue, receiving, sending, Waiter, State, place, queueAt, domainAt, waiter, setWaits, no}
 use Rattle.model.specs.Answers.{Effect, Released, Out, out, say, whenOk, whenWaiting, whenAccepted}
 use Rattle.model.specs.Waits.{standsAt, isOther, absent, join, receivers, senders}
 use Rattle.model.specs.Acts.{Act, own, refer, setVector, ofOwn}
-use Rattle.model.specs.Rooms.{check, actOn, Asks, onObject}
+use Rattle.model.specs.Rooms.{check, actOn, onRecords, Asks, onObject}
 use Rattle.model.specs.Queues as Queues
-use Rattle.model.specs.Queues.{QueueCall, send, receive, room}
-use Rattle.model.specs.QueueClaims.{askedOf, byQueue, sent, sentIn, handed, Sender, sendIn, notTask, unreleased, waitingSends, senderOf, maySend, mayReceive, SentAllowed, began, IsReceive, Came, TakenIn, TakenAllowed, Carried}
+use Rattle.model.specs.Queues.{QueueCall, send, receive, forcedSend, setBuffer, room}
+use Rattle.model.specs.Sends.{sendIn, sendOf, wordOf, notShown, waitingSends, buffered}
+use Rattle.model.specs.QueueClaims.{askedOf, byQueue, sentIn, Sender, senderOf, senderIn, maySend, mayReceive, SentAllowed, began, IsReceive, Came, TakenIn, TakenAllowed, Carried}
 use Rattle.model.specs.Calls.{Op, onSemaphore, onQueue, Call, asks, step}
 use Rattle.model.specs.Conditions.{QueuesFit, QueueEntryFits}
 use Rattle.model.specs.History.{History, event, Made, seenBy, after, history, askedIf, ofAsked, vectorSince, vectorBy, joined, without, pending}
 use Rattle.model.specs.Demand3.{JustClosed}
-use Rattle.model.proofs.Lists.{absent-keep, all-keep, all-snoc, keep-append, keep-comm, eq-of, eqb-same, eqb-sym, and-left, and-right, no-both, Distinct}
+use Rattle.model.proofs.Lists.{absent-keep, all-keep, all-snoc, keep-append, keep-comm, keep-neither, map-append, map-keep, eq-of, eqb-same, eqb-sym, and-left, and-right, no-both, Distinct}
 use Rattle.model.proofs.WaitQueues.{place-of}
 use Rattle.model.proofs.Fits.{queues-put, buffer-fits}
-use Rattle.model.proofs.Rooms.{roomOf, is-at, Calls, Passed, passed, stranger, ok-same, accepted-same}
+use Rattle.model.proofs.Rooms.{roomOf, is-at, Calls, Passed, passed, stranger}
 use Rattle.model.proofs.Semaphores as SemaphoreRoom
-use Rattle.model.proofs.Queues.{bare, laws, cover, flows, QView, qview-eq, qviewOf, content, QueueOk, Kept, stay}
+use Rattle.model.proofs.Queues.{bare, laws, cover, fine-here, qview-eq, qviewOf, QueueOk, via}
+use Rattle.model.proofs.Sends.{Moves, Held, none-yet, one-more, all-placed, in-call-order}
+use Rattle.model.proofs.Placing.{refused-moves, elsewhere-moves, act-moves}
 use Rattle.model.proofs.Cover.{Whose, mine, foreign, sees, keeps-records, entries-stay, all-stay, vector-law, Endings, ends}
 use Rattle.model.proofs.Steps.{distinct-law, fixed-law, waiters-are}
 
@@ -51,18 +54,12 @@ entries-step s n f c = all-stay room laws askedOf whose s (QueueEntryFits n) f c
 pub set-law : (s : State) (q : ℕ) (c : Call) → queueAt (step s c .state) q .vector ≡ vectorBy (askedOf q (c .op)) (step s c .answer .code) (queueAt s q .vector)
 set-law s q c = vector-law room laws askedOf whose s q c
 
--- ---- one call: the words handed out, taken in and held
--- a call that asks nothing of the queue hands out nothing and takes in nothing
-unseen : (v v′ : QView) (k : Code) → v′ ≡ v → QueueOk v → Kept v v′ (whenOk [] [] k) (whenAccepted [] [] k)
-unseen v v′ k e f = rw (ok-same {A = List ℕ} [] k, accepted-same {A = List ℕ} [] k) (stay v v′ e f)
-
-pub queue-law : (s : State) → Distinct (s .waits) → (q : ℕ) → QueueOk (qviewOf s q) → (c : Call)
-    → Kept (qviewOf s q) (qviewOf (step s c .state) q) (handed (seenBy (askedOf q) (event s c))) (sent (seenBy (askedOf q) (event s c)))
-queue-law s d q k c = sees room laws askedOf whose s q (λ m s′. Kept (qviewOf s q) (qviewOf s′ q) (handed m) (sent m)) (record {
-  refused = λ t a e. stay _ _ refl k;
-  elsewhere = λ t a s′ e f. unseen (qviewOf s q) (qviewOf s′ q) (a .code)
-      (qview-eq (ap (λ (z : Queue). z .capacity) e) (ap (λ (z : Queue). z .buffer) e) (f d (place sending q) (is-at (laws .tag) q (place sending q) refl refl)) (f d (place receiving q) (is-at (laws .tag) q (place receiving q) refl refl))) k;
-  here = λ t a p. flows (s .waits) (s .queues) t q (p .numbered) (p .there) d k a;
+-- ---- one call leaves each queue fine
+pub fine-law : (s : State) → Distinct (s .waits) → (q : ℕ) → QueueOk (qviewOf s q) → (c : Call) → QueueOk (qviewOf (step s c .state) q)
+fine-law s d q k c = sees room laws askedOf whose s q (λ m s′. QueueOk (qviewOf s′ q)) (record {
+  refused = λ t a e. k;
+  elsewhere = λ t a s′ e f. via (qview-eq (ap (λ (z : Queue). z .capacity) e) (ap (λ (z : Queue). z .buffer) e) (f d (place sending q) (is-at (laws .tag) q (place sending q) refl refl)) (f d (place receiving q) (is-at (laws .tag) q (place receiving q) refl refl))) k;
+  here = λ t a p. fine-here (s .waits) (s .queues) t q (p .numbered) (p .there) d k a;
 }) c
 
 -- ---- the limits of the queues are kept
@@ -71,7 +68,7 @@ queues-here s f t n refer = f
 queues-here s f t n (setVector v) = queues-put f n _ refl (buffer-fits f n)
 queues-here s f t n (own c) = cover (s .waits) (s .queues) t n (λ c o. QueuesFit (o .records)) (record {
   sendPasses = λ q w e l h. f;
-  sendStores = λ q w h r. queues-put f n _ refl (let b = ltb-true (length (queueAt s n .buffer)) (queueAt s n .capacity) r in rw (length-append (queueAt s n .buffer) (w ∷ [])) (omega arith));
+  sendStores = λ q w h r. stored w r;
   sendFails = λ w h r. f;
   sendWaits = λ w h r. f;
   receives = λ q x b h r. queues-put f n _ refl (let c = buffer-fits f n in let d : length (queueAt s n .buffer) ≡ suc (length b) = ap length h in omega arith);
@@ -79,7 +76,14 @@ queues-here s f t n (own c) = cover (s .waits) (s .queues) t n (λ c o. QueuesFi
   receivePasses = λ q e l h r. f;
   receiveFails = λ h r. f;
   receiveWaits = λ h r. f;
+  forceMisused = λ w h. f;
+  forcePasses = λ w e l z h. f;
+  forceStores = λ w h r. stored w r;
+  forceDrops = λ w z b h r g. queues-put f n _ refl (let c = buffer-fits f n in let d : length (queueAt s n .buffer) ≡ suc (length b) = ap length g in rw (length-append b (w ∷ [])) (omega arith));
 }) c
+  where
+    stored : (w : ℕ) → ltb (length (queueAt s n .buffer)) (queueAt s n .capacity) ≡ true → QueuesFit (setBuffer (s .queues) n (queueAt s n .buffer ++ (w ∷ [])))
+    stored w r = queues-put f n _ refl (let b = ltb-true (length (queueAt s n .buffer)) (queueAt s n .capacity) r in rw (length-append (queueAt s n .buffer) (w ∷ [])) (omega arith))
 
 pub queues-step : (s : State) → QueuesFit (s .queues) → (c : Call) → QueuesFit (step s c .state .queues)
 queues-step s f = keeps-records room laws askedOf whose s QueuesFit f (λ t n a p. queues-here s f t n a)
@@ -89,6 +93,7 @@ pub record Inv (s₀ : State) (s : State) (h : History) : Type 0 where
   pub distinct : Distinct (s .waits)
   pub fine : (q : ℕ) → QueueOk (qviewOf s q)
   pub fixed : s .fixed ≡ s₀ .fixed
+  pub capacity : (q : ℕ) → queueAt s q .capacity ≡ queueAt s₀ q .capacity
   pub vectors : (q : ℕ) → queueAt s q .vector ≡ vectorSince (queueAt s₀ q .vector) (byQueue q h)
   pub came : (q : ℕ) → All (λ (e : Waiter). Came (domainAt s₀) (queueAt s₀ q .vector) (e .task) (byQueue q h)) (receivers s q)
 
@@ -133,6 +138,7 @@ module _ (s₀ s : State) (h : History) (i : Inv s₀ s h) where
       )),
       tt,
     )
+    begun-here t n (own (forcedSend w)) p = ((λ z. absurd (no-both z refl)), tt)
     begun-here t n refer p = tt
     begun-here t n (setVector v) p = tt
 
@@ -201,11 +207,12 @@ module _ (s₀ s : State) (h : History) (i : Inv s₀ s h) where
     abbrev MayTake : ℕ → QueueCall → Type 0
     MayTake t (send a w) = Unit
     MayTake t (receive a) = T (mayReceive (domainAt s₀) (queueAt s₀ q .vector) t (byQueue q h))
+    MayTake t (forcedSend w) = Unit
 
     took : (t : ℕ) (c : QueueCall) → MayTake t c → (o : Effect Queue) → o ≡ Queues.does (s .waits) (s .queues) t q c
         → whenOk Unit (TakenIn (domainAt s₀) (queueAt s₀ q .vector) (record { caller = t; asked = some (own c); answer = o .answer }) (byQueue q h) c) (o .answer .code)
     took t c m o e = subst (λ (x : Effect Queue). Took c x) (sym e) (cover (s .waits) (s .queues) t q (λ (d : QueueCall) (x : Effect Queue). MayTake t d → Took d x) (record {
-      sendPasses = λ a w e l f z. (subst (λ (l : List Waiter). All (λ (y : Waiter). Arrived (y .task) (byQueue q h)) l) f (i .came q) .0, tt);
+      sendPasses = λ a w e l f z. (first f, tt);
       sendStores = λ a w f g z. tt;
       sendFails = λ w f g z. tt;
       sendWaits = λ w f g z. tt;
@@ -214,8 +221,15 @@ module _ (s₀ s : State) (h : History) (i : Inv s₀ s h) where
       receivePasses = λ a e l f g z. z;
       receiveFails = λ f g z. tt;
       receiveWaits = λ f g z. tt;
+      forceMisused = λ w f z. tt;
+      forcePasses = λ w e l n f z. (first f, tt);
+      forceStores = λ w f g z. tt;
+      forceDrops = λ w y b f g k z. tt;
     }) c m)
       where
+        first : {e : Waiter} {l : List Waiter} → receivers s q ≡ e ∷ l → Arrived (e .task) (byQueue q h)
+        first f = subst (λ (l : List Waiter). All (λ (y : Waiter). Arrived (y .task) (byQueue q h)) l) f (i .came q) .0
+
         Took : QueueCall → Effect Queue → Type 0
         Took d x = whenOk Unit (TakenIn (domainAt s₀) (queueAt s₀ q .vector) (record { caller = t; asked = some (own d); answer = x .answer }) (byQueue q h) d) (x .answer .code)
 
@@ -223,6 +237,7 @@ module _ (s₀ s : State) (h : History) (i : Inv s₀ s h) where
         → TakenAllowed (domainAt s₀) (queueAt s₀ q .vector) (record { caller = t; asked = some a; answer = actOn room (s .waits) (s .queues) t q a .answer }) (byQueue q h)
     take-here t (own (send b w)) p = took t (send b w) tt (Queues.does (s .waits) (s .queues) t q (send b w)) refl
     take-here t (own (receive b)) p = took t (receive b) (may-receive q t (p .may)) (Queues.does (s .waits) (s .queues) t q (receive b)) refl
+    take-here t (own (forcedSend w)) p = took t (forcedSend w) tt (Queues.does (s .waits) (s .queues) t q (forcedSend w)) refl
     take-here t refer p = tt
     take-here t (setVector v) p = tt
 
@@ -246,6 +261,7 @@ module _ (s₀ s : State) (h : History) (i : Inv s₀ s h) where
     sent-here : (t : ℕ) (a : Act QueueCall) → Passed room s t q a → Sends t (ofOwn [] sentIn a)
     sent-here t (own (send b w)) p = (may-send q t (p .may), tt)
     sent-here t (own (receive b)) p = tt
+    sent-here t (own (forcedSend w)) p = (may-send q t (p .may), tt)
     sent-here t refer p = tt
     sent-here t (setVector v) p = tt
 
@@ -259,8 +275,9 @@ module _ (s₀ s : State) (h : History) (i : Inv s₀ s h) where
   next : (c : Call) → Inv s₀ (step s c .state) (event s c ∷ h)
   next c = record {
     distinct = distinct-law s (i .distinct) c;
-    fine = λ q. queue-law s (i .distinct) q (i .fine q) c .fine;
+    fine = λ q. fine-law s (i .distinct) q (i .fine q) c;
     fixed = fixed-law s c ∙ i .fixed;
+    capacity = λ q. ap (λ (x : Queue). x .capacity) (entries-law s c .0 q) ∙ i .capacity q;
     vectors = λ q. set-law s q c ∙ ap (vectorBy (askedOf q (c .op)) (step s c .answer .code)) (i .vectors q);
     came = λ q. ends s (CameLaw q (c .op)) (came-ends q (c .op)) c refl;
   }
@@ -271,51 +288,34 @@ inv s₀ j [] = record {
   distinct = rw (j .noWaits) tt;
   fine = λ q. record { idle = inl (rw (j .noWaits) refl); full = inl (rw (j .noWaits) refl) };
   fixed = refl;
+  capacity = λ q. refl;
   vectors = λ q. refl;
   came = λ q. rw (j .noWaits) tt;
 }
 inv s₀ j (c ∷ cs) = next s₀ (after s₀ cs) (history s₀ cs) (inv s₀ j cs) c
 
--- ---- the whole list
-conserved : (s₀ : State) → JustClosed s₀ → (cs : List Call) (q : ℕ) → words handed (byQueue q (history s₀ cs)) ++ content (qviewOf (after s₀ cs) q) ≡ words sent (byQueue q (history s₀ cs))
-unfolding after history
-conserved s₀ j [] q = rw (j .noWaits, j .noWords q) refl
-conserved s₀ j (c ∷ cs) q =
-    let i = inv s₀ j cs in
-    let s = after s₀ cs in
-    let m = seenBy (askedOf q) (event s c) in
-    let given = words handed (byQueue q (history s₀ cs)) in
-    let f = queue-law s (i .distinct) q (i .fine q) c .flow in
-    append-assoc given (handed m) (content (qviewOf (step s c .state) q))
-    ∙ ap (λ (l : List ℕ). given ++ l) f
-    ∙ sym (append-assoc given (content (qviewOf s q)) (sent m))
-    ∙ ap (λ (l : List ℕ). l ++ sent m) (conserved s₀ j cs q)
-
 -- ---- the waiting senders, by the history alone
 module _ (q : ℕ) where
-  map-append : (l m : List Waiter) → map senderOf (l ++ m) ≡ map senderOf l ++ map senderOf m
-  map-append [] m = refl
-  map-append (x ∷ l) m = ap (λ (k : List Sender). senderOf x ∷ k) (map-append l m)
-
-  map-leave : (t : ℕ) (l : List Waiter) → map senderOf (keep (isOther t) l) ≡ keep (notTask t) (map senderOf l)
-  map-leave t [] = refl
-  map-leave t (x ∷ l) = go (isOther t x) (map-leave t l)
-    where
-      go : (b : Bool) → map senderOf (keep (isOther t) l) ≡ keep (notTask t) (map senderOf l) → map senderOf (consIf b x (keep (isOther t) l)) ≡ consIf b (senderOf x) (keep (notTask t) (map senderOf l))
-      go true e = ap (λ (k : List Sender). senderOf x ∷ k) e
-      go false e = e
-
   abbrev sendersIn : List Waiter → List Sender
   sendersIn l = map senderOf (keep (standsAt (place sending q)) l)
 
-  senders-without : (rs : List Released) (l : List Waiter) → sendersIn (without rs l) ≡ unreleased rs (sendersIn l)
-  senders-without [] l = refl
+  abbrev released : List Released → Sender → Bool
+  released rs x = anyOf (λ (r : Released). eqb (r .task) (x .task)) rs
+
+  senders-without : (rs : List Released) (l : List Waiter) → sendersIn (without rs l) ≡ keep (λ (x : Sender). not (released rs x)) (sendersIn l)
+  senders-without [] l = sym (all-kept (sendersIn l))
+    where
+      all-kept : (l : List Sender) → keep (λ (x : Sender). not (released [] x)) l ≡ l
+      all-kept [] = refl
+      all-kept (x ∷ l) = ap (λ (k : List Sender). x ∷ k) (all-kept l)
   senders-without (r ∷ rs) l =
       senders-without rs (keep (isOther (r .task)) l)
-      ∙ ap (unreleased rs) (ap (map senderOf) (keep-comm (standsAt (place sending q)) (isOther (r .task)) l) ∙ map-leave (r .task) (keep (standsAt (place sending q)) l))
+      ∙ ap (keep (λ (x : Sender). not (released rs x)))
+      (ap (map senderOf) (keep-comm (standsAt (place sending q)) (isOther (r .task)) l) ∙ map-keep senderOf (λ (x : Sender). not (eqb (r .task) (x .task))) (keep (standsAt (place sending q)) l))
+      ∙ keep-neither (released rs) (λ (x : Sender). eqb (r .task) (x .task)) (sendersIn l)
 
   senders-append : (l m : List Waiter) → sendersIn (l ++ m) ≡ sendersIn l ++ sendersIn m
-  senders-append l m = ap (map senderOf) (keep-append (standsAt (place sending q)) l m) ∙ map-append (keep (standsAt (place sending q)) l) (keep (standsAt (place sending q)) m)
+  senders-append l m = ap (map senderOf) (keep-append (standsAt (place sending q)) l m) ∙ map-append senderOf (keep (standsAt (place sending q)) l) (keep (standsAt (place sending q)) m)
 
   -- what another room begins is no send
   no-senders : (l : List Waiter) → All (λ (e : Waiter). roomOf (e .place .side) ≢ laws .tag) l → sendersIn l ≡ []
@@ -326,40 +326,81 @@ module _ (q : ℕ) where
       go true z r = absurd (k .0 (ap (λ (p : Place). roomOf (p .side)) (place-of (place sending q) (e .place) z)))
       go false z r = r
 
-  -- nothing asked, no send
-  unasked : (t : ℕ) (b : Bool) (a : Act QueueCall) → ofOwn [] (sendIn t) a ≡ [] → [] ≡ ofAsked [] (sendIn t) (askedIf b a)
-  unasked t true a e = sym e
-  unasked t false a e = refl
+  -- the send that a call on a queue is, the number of calls before it being k
+  module _ (k t : ℕ) where
+    abbrev sendsIn : Option (Act QueueCall) → List Sender
+    sendsIn o = map senderIn (ofAsked [] (sendIn k t) o)
 
-  -- what a call on a queue begins
-  sends-here : (t : ℕ) (n : ℤ) (a : Act QueueCall) → sendersIn (onObject room n a .begins t) ≡ ofAsked [] (sendIn t) (askedIf (eqb q (no n)) a)
-  sends-here t n (own (send p w)) = here (eqb q (no n))
-    where
-      here : (b : Bool) → map senderOf (consIf b (waiter t sending (no n) w) []) ≡ ofAsked [] (sendIn t) (askedIf b (own (send p w)))
-      here true = refl
-      here false = refl
-  sends-here t n (own (receive p)) = unasked t (eqb q (no n)) (own (receive p)) refl
-  sends-here t n refer = unasked t (eqb q (no n)) refer refl
-  sends-here t n (setVector v) = unasked t (eqb q (no n)) (setVector v) refl
+    -- nothing asked, no send
+    unasked : (b : Bool) (a : Act QueueCall) → ofOwn [] (sendIn k t) a ≡ [] → [] ≡ sendsIn (askedIf b a)
+    unasked true a e = ap (map senderIn) (sym e)
+    unasked false a e = refl
 
-  senders-begun : (t : ℕ) (op : Op) → sendersIn (asks op .begins t) ≡ ofAsked [] (sendIn t) (askedOf q op)
-  senders-begun t op = go (whose op)
-    where
-      go : Whose room laws askedOf op → sendersIn (asks op .begins t) ≡ ofAsked [] (sendIn t) (askedOf q op)
-      go (mine n a e f) = ap (λ (x : Asks). sendersIn (x .begins t)) e ∙ sends-here t n a ∙ ap (ofAsked [] (sendIn t)) (sym (f q))
-      go (foreign k f) = no-senders (asks op .begins t) (k .begins t) ∙ ap (ofAsked [] (sendIn t)) (sym (f q))
+    begins-send : (n : ℤ) (w : ℕ) (c : QueueCall) → map senderIn (sendIn k t c) ≡ senderOf (waiter t sending (no n) w) ∷ []
+        → sendersIn (waiter t sending (no n) w ∷ []) ≡ sendsIn (askedIf (eqb q (no n)) (own c))
+    begins-send n w c e = go (eqb q (no n))
+      where
+        go : (b : Bool) → map senderOf (consIf b (waiter t sending (no n) w) []) ≡ sendsIn (askedIf b (own c))
+        go true = sym e
+        go false = refl
 
-  senders-joined : (t : ℕ) (op : Op) (c : Code) → sendersIn (whenWaiting [] (asks op .begins t) c) ≡ whenWaiting [] (ofAsked [] (sendIn t) (askedOf q op)) c
-  senders-joined t op ok = refl
-  senders-joined t op (error e) = refl
-  senders-joined t op waiting = senders-begun t op
+    -- what a call on a queue begins
+    sends-here : (n : ℤ) (a : Act QueueCall) → sendersIn (onObject room n a .begins t) ≡ sendsIn (askedIf (eqb q (no n)) a)
+    sends-here n (own (send p w)) = begins-send n w (send p w) refl
+    sends-here n (own (receive p)) = unasked (eqb q (no n)) (own (receive p)) refl
+    sends-here n (own (forcedSend w)) = begins-send n w (forcedSend w) refl
+    sends-here n refer = unasked (eqb q (no n)) refer refl
+    sends-here n (setVector v) = unasked (eqb q (no n)) (setVector v) refl
 
-  senders-pending : (h : History) → sendersIn (pending h) ≡ waitingSends (byQueue q h)
+    senders-begun : (op : Op) → sendersIn (asks op .begins t) ≡ sendsIn (askedOf q op)
+    senders-begun op = go (whose op)
+      where
+        go : Whose room laws askedOf op → sendersIn (asks op .begins t) ≡ sendsIn (askedOf q op)
+        go (mine n a e f) = ap (λ (x : Asks). sendersIn (x .begins t)) e ∙ sends-here n a ∙ ap sendsIn (sym (f q))
+        go (foreign k f) = no-senders (asks op .begins t) (k .begins t) ∙ ap sendsIn (sym (f q))
+
+    senders-joined : (op : Op) (c : Code) → sendersIn (whenWaiting [] (asks op .begins t) c) ≡ map senderIn (whenWaiting [] (ofAsked [] (sendIn k t) (askedOf q op)) c)
+    senders-joined op ok = refl
+    senders-joined op (error e) = refl
+    senders-joined op waiting = senders-begun op
+
+  senders-pending : (h : History) → sendersIn (pending h) ≡ map senderIn (waitingSends (byQueue q h))
   senders-pending [] = refl
   senders-pending (e ∷ h) =
-      senders-append (without (e .answer .released) (pending h)) (joined e)
-      ∙ ap (λ (k : List Sender). k ++ sendersIn (joined e)) (senders-without (e .answer .released) (pending h) ∙ ap (unreleased (e .answer .released)) (senders-pending h))
-      ∙ ap (λ (k : List Sender). unreleased (e .answer .released) (waitingSends (byQueue q h)) ++ k) (senders-joined (no (e .call .caller)) (e .call .op) (e .answer .code))
+      let rs = e .answer .released in
+      let l = waitingSends (byQueue q h) in
+      senders-append (without rs (pending h)) (joined e)
+      ∙ ap (λ (k : List Sender). k ++ sendersIn (joined e)) (senders-without rs (pending h) ∙ ap (keep (λ (x : Sender). not (released rs x))) (senders-pending h) ∙ sym (map-keep senderIn (λ (x : Sender). not (released rs x)) l))
+      ∙ ap (λ (k : List Sender). map senderIn (keep (notShown rs) l) ++ k) (senders-joined (length (byQueue q h)) (no (e .call .caller)) (e .call .op) (e .answer .code))
+      ∙ sym (map-append senderIn (keep (notShown rs) l) (whenWaiting [] (sendOf (seenBy (askedOf q) e) (byQueue q h)) (e .answer .code)))
+
+pub senders-are : (s₀ : State) → s₀ .waits ≡ [] → (cs : List Call) (q : ℕ) → map senderOf (senders (after s₀ cs) q) ≡ map senderIn (waitingSends (byQueue q (history s₀ cs)))
+senders-are s₀ j cs q = ap (sendersIn q) (waiters-are s₀ j cs) ∙ senders-pending q (history s₀ cs)
+
+-- ---- where every word is
+module _ (s₀ s : State) (q : ℕ) (h : List (Made QueueCall)) (d : Distinct (s .waits)) (k : QueueOk (qviewOf s q)) (e : queueAt s q .capacity ≡ queueAt s₀ q .capacity)
+    (words : queueAt s q .buffer ≡ map wordOf (buffered (queueAt s₀ q .capacity) h)) (then : map senderOf (senders s q) ≡ map senderIn (waitingSends h)) where
+  abbrev MovesLaw : Made QueueCall → State → Type 0
+  MovesLaw m s′ = map senderOf (senders s′ q) ≡ map senderIn (waitingSends (m ∷ h)) → Moves (queueAt s₀ q .capacity) m h (queueAt s′ q .buffer)
+
+  pub moved : (c : Call) → MovesLaw (seenBy (askedOf q) (event s c)) (step s c .state)
+  moved c = sees room laws askedOf whose s q MovesLaw (record {
+    refused = λ t a x now. refused-moves (queueAt s₀ q .capacity) h (queueAt s q .buffer) words t a x;
+    elsewhere = λ t a s′ x f now. elsewhere-moves (queueAt s₀ q .capacity) h (queueAt s q .buffer) words t a (senders s q) (queueAt s′ q .buffer) then
+        (ap (map senderOf) (sym (f d (place sending q) (is-at (laws .tag) q (place sending q) refl refl))) ∙ now) (ap (λ (z : Queue). z .buffer) x);
+    here = λ t a p now. subst (λ (n : ℕ). Moves n (record { caller = t; asked = some a; answer = actOn room (s .waits) (s .queues) t q a .answer }) h (queueAt (onRecords room s (actOn room (s .waits) (s .queues) t q a) .state) q .buffer)) e
+        (act-moves (s .waits) (s .queues) t q (p .numbered) (p .there) d k h (subst (λ (n : ℕ). queueAt s q .buffer ≡ map wordOf (buffered n h)) (sym e) words) then a now);
+  }) c
+
+held : (s₀ : State) → JustClosed s₀ → (cs : List Call) (q : ℕ) → Held (queueAt s₀ q .capacity) (byQueue q (history s₀ cs)) (queueAt (after s₀ cs) q .buffer)
+unfolding after history
+held s₀ j [] q = rw (j .noWords q) (none-yet (queueAt s₀ q .capacity))
+held s₀ j (c ∷ cs) q =
+    let i = inv s₀ j cs in
+    let s = after s₀ cs in
+    let h = byQueue q (history s₀ cs) in
+    one-more (queueAt s₀ q .capacity) (seenBy (askedOf q) (event s c)) h (queueAt s q .buffer) (queueAt (step s c .state) q .buffer) (held s₀ j cs q)
+    (moved s₀ s q h (i .distinct) (i .fine q) (i .capacity q) (held s₀ j cs q .words) (senders-are s₀ (j .noWaits) cs q) c (senders-are s₀ (j .noWaits) (c ∷ cs) q))
 
 each-sent : (s₀ : State) → JustClosed s₀ → (cs : List Call) (q : ℕ) → Each (SentAllowed (domainAt s₀) (queueAt s₀ q .vector)) (byQueue q (history s₀ cs))
 unfolding after history
@@ -371,10 +412,16 @@ unfolding after history
 each-taken s₀ j [] q = tt
 each-taken s₀ j (c ∷ cs) q = (taken s₀ (after s₀ cs) (history s₀ cs) (inv s₀ j cs) q c, each-taken s₀ j cs q)
 
-pub carried : (s₀ : State) → JustClosed s₀ → (cs : List Call) (q : ℕ) → Carried (domainAt s₀) (queueAt s₀ q .vector) (byQueue q (history s₀ cs)) (queueAt (after s₀ cs) q .buffer) (senders (after s₀ cs) q)
-carried s₀ j cs q = record {
-  conserved = conserved s₀ j cs q;
-  sendersAllowed = each-sent s₀ j cs q;
-  takersAllowed = each-taken s₀ j cs q;
-  sendersAre = ap (sendersIn q) (waiters-are s₀ (j .noWaits) cs) ∙ senders-pending q (history s₀ cs);
-}
+pub carried : (s₀ : State) → JustClosed s₀ → (cs : List Call) (q : ℕ) → Carried (domainAt s₀) (queueAt s₀ q) (byQueue q (history s₀ cs)) (queueAt (after s₀ cs) q .buffer) (senders (after s₀ cs) q)
+carried s₀ j cs q =
+    let i = held s₀ j cs q in
+    record {
+      ordered = i .ordered;
+      handedAre = i .handedAre;
+      placed = all-placed (queueAt s₀ q .capacity) (byQueue q (history s₀ cs)) (queueAt (after s₀ cs) q .buffer) i;
+      oneEach = i .oneEach;
+      inCallOrder = in-call-order (queueAt s₀ q .capacity) (byQueue q (history s₀ cs)) (queueAt (after s₀ cs) q .buffer) i;
+      sendersAllowed = each-sent s₀ j cs q;
+      takersAllowed = each-taken s₀ j cs q;
+      sendersAre = senders-are s₀ (j .noWaits) cs q;
+    }

@@ -2,26 +2,26 @@
 use mathlib.Core.Path.{_≡_, refl, sym, ap, _∙_, subst}
 use mathlib.Core.Logic.{_≢_, _⊎_, inl, inr}
 use mathlib.Core.Bool.{Bool, true, false}
-use mathlib.Core.List.{List, [], _∷_, _++_, append-assoc, append-nil}
+use mathlib.Core.List.{List, [], _∷_, _++_}
 use mathlib.Core.Option.{none}
 use Prim.Native.Nat.{ℕ, suc, _+_, _≤_, _<_}
 use native.Mathlib.Omega.{arith}
-use lib.ListN.{length, length-append}
-use lib.Dec.{ltb}
+use lib.ListN.{length, drop, length-append}
+use lib.Dec.{eqb, ltb}
 use borrow.Author.Tests.{ltb-true, ltb-false}
 use Rattle.access.specs.Vectors.{patternOf}
-use Rattle.itron.specs.Codes.{Err, error, eOacv, eTmout, waiting}
+use Rattle.itron.specs.Codes.{Err, error, eOacv, eIluse, eTmout, waiting}
 pub use Rattle.model.specs.Conditions.{QView, qview, qviewOf, QueueOk}
 use Rattle.model.specs.Lists.{All}
 use Rattle.model.specs.State.{Vector, Queue, Waiter, State, receiving, sending, place, waiter, noQueue, zeroVector}
-use Rattle.model.specs.Answers.{Effect, effect, say, whenOk, whenAccepted}
-use Rattle.model.specs.Waits.{Patience, polling, forever, waitersIn, join, refusal, wakes, gives}
-use Rattle.model.specs.Acts.{Act, own, refer, setVector, ofOwn, operationOf}
-use Rattle.model.specs.Rooms.{setVectorOf, actOn}
-use Rattle.model.specs.Queues.{QueueCall, send, receive, operation, queueIn, setBuffer, hasRoom, begins, serves, sendBy, receiveBy, does, room}
-use Rattle.model.specs.QueueClaims.{patternFor, wordsIn, sentIn, handedIn}
+use Rattle.model.specs.Answers.{Effect, effect, say}
+use Rattle.model.specs.Waits.{Patience, polling, forever, waitersIn, leave, join, refusal, wakes, gives}
+use Rattle.model.specs.Acts.{Act, own, refer, setVector, operationOf}
+use Rattle.model.specs.Rooms.{actOn}
+use Rattle.model.specs.Queues.{QueueCall, send, receive, forcedSend, operation, queueIn, setBuffer, hasRoom, begins, serves, sendBy, receiveBy, forceBy, does, room}
+use Rattle.model.specs.QueueClaims.{patternFor}
 use Rattle.model.specs.Conditions.{Plain, Registered}
-use Rattle.model.proofs.Lists.{Distinct, cons-ne, at-put-same, at-put-keep}
+use Rattle.model.proofs.Lists.{Distinct, cons-ne, eq-of, ne-of, at-put-same, at-put-keep}
 use Rattle.model.proofs.WaitQueues.{alike, leave-here, leave-elsewhere, join-here, join-elsewhere}
 use Rattle.model.proofs.Endings.{SameBut, same-all, same-put, Ends}
 use Rattle.model.proofs.Endings as Endings
@@ -34,19 +34,7 @@ tag = roomOf sending
 pub qview-eq : {c c′ : ℕ} {b b′ : List ℕ} {x x′ y y′ : List Waiter} → c ≡ c′ → b ≡ b′ → x ≡ x′ → y ≡ y′ → qview c b x y ≡ qview c′ b′ x′ y′
 qview-eq p q r s = λ i. record { capacity = p i; buffer = q i; senders = r i; receivers = s i }
 
--- the words that a queue holds, in the order in which they will be handed out
-abbrev pub content : QView → List ℕ
-content v = v .buffer ++ wordsIn (v .senders)
-
--- from the view v to v′, with words handed out and words taken in
-pub record Kept (v v′ : QView) (given taken : List ℕ) : Type 0 where
-  pub flow : given ++ content v′ ≡ content v ++ taken
-  pub fine : QueueOk v′
-
--- ---- the laws of one queue
-pub stay : (v v′ : QView) → v′ ≡ v → QueueOk v → Kept v v′ [] []
-stay v v′ e k = record { flow = rw e (sym (append-nil (content v))); fine = rw e k }
-
+-- ---- the laws of one queue: what a call does to it leaves it fine
 module _ (c : ℕ) (b : List ℕ) (x y : List Waiter) (k : QueueOk (qview c b x y)) where
   -- a receiver waits, so nothing is held
   pub empty : {e : Waiter} {l : List Waiter} → y ≡ e ∷ l → (b ≡ []) × (x ≡ [])
@@ -56,12 +44,7 @@ module _ (c : ℕ) (b : List ℕ) (x y : List Waiter) (k : QueueOk (qview c b x 
       go (inl z) = absurd (cons-ne h z)
       go (inr z) = z
 
-  pub pass : (w : ℕ) {e : Waiter} {l : List Waiter} → y ≡ e ∷ l → Kept (qview c b x y) (qview c b x l) (w ∷ []) (w ∷ [])
-  pass w h = record {
-    flow = rw (empty h .0, empty h .1) refl;
-    fine = record { idle = inr (empty h); full = inl (empty h .1) };
-  }
-
+  -- there is room, so no sender waits
   pub unheld : length b < c → x ≡ []
   unheld h = go (k .full)
     where
@@ -69,22 +52,7 @@ module _ (c : ℕ) (b : List ℕ) (x y : List Waiter) (k : QueueOk (qview c b x 
       go (inl z) = z
       go (inr z) = absurd (omega arith)
 
-  pub store : (w : ℕ) → y ≡ [] → length b < c → Kept (qview c b x y) (qview c (b ++ (w ∷ [])) x y) [] (w ∷ [])
-  store w h r = record {
-    flow = rw (unheld r) (append-nil (b ++ (w ∷ [])) ∙ ap (λ (z : List ℕ). z ++ (w ∷ [])) (sym (append-nil b)));
-    fine = record { idle = inl h; full = inl (unheld r) };
-  }
-
-  pub queueUp : (e : Waiter) → y ≡ [] → c ≤ length b → Kept (qview c b x y) (qview c b (x ++ (e ∷ [])) y) [] (e .word ∷ [])
-  queueUp e h r = record {
-    flow = rw (words-snoc x) (sym (append-assoc b (wordsIn x) (e .word ∷ [])));
-    fine = record { idle = inl h; full = inr r };
-  }
-    where
-      words-snoc : (l : List Waiter) → wordsIn (l ++ (e ∷ [])) ≡ wordsIn l ++ (e .word ∷ [])
-      words-snoc [] = refl
-      words-snoc (z ∷ l) = ap (λ (m : List ℕ). z .word ∷ m) (words-snoc l)
-
+  -- a word is buffered, so no receiver waits
   noReceiver : {z : ℕ} {b′ : List ℕ} → b ≡ z ∷ b′ → y ≡ []
   noReceiver h = go (k .idle)
     where
@@ -92,28 +60,36 @@ module _ (c : ℕ) (b : List ℕ) (x y : List Waiter) (k : QueueOk (qview c b x 
       go (inl z) = z
       go (inr z) = absurd (cons-ne h (z .0))
 
-  pub take : (z : ℕ) (b′ : List ℕ) → b ≡ z ∷ b′ → x ≡ [] → Kept (qview c b x y) (qview c b′ x y) (z ∷ []) []
-  take z b′ h r = record {
-    flow = rw (h, r) (sym (append-nil (z ∷ (b′ ++ []))));
-    fine = record { idle = inl (noReceiver h); full = inl r };
-  }
+  -- a receiver gets a word; a word comes last; a sender joins
+  pub pass : {e : Waiter} {l : List Waiter} → y ≡ e ∷ l → QueueOk (qview c b x l)
+  pass h = record { idle = inr (empty h); full = inl (empty h .1) }
 
-  pub refill : (z : ℕ) (b′ : List ℕ) (e : Waiter) (l : List Waiter) → b ≡ z ∷ b′ → x ≡ e ∷ l
-      → Kept (qview c b x y) (qview c (b′ ++ (e .word ∷ [])) l y) (z ∷ []) []
-  refill z b′ e l h r = record {
-    flow = rw (h, r) (ap (λ (m : List ℕ). z ∷ m) (append-assoc b′ (e .word ∷ []) (wordsIn l) ∙ sym (append-nil (b′ ++ (e .word ∷ wordsIn l)))));
-    fine = record { idle = inl (noReceiver h); full = go (k .full) };
-  }
+  pub store : (w : ℕ) → y ≡ [] → length b < c → QueueOk (qview c (b ++ (w ∷ [])) x y)
+  store w h r = record { idle = inl h; full = inl (unheld r) }
+
+  pub queueUp : (e : Waiter) → y ≡ [] → c ≤ length b → QueueOk (qview c b (x ++ (e ∷ [])) y)
+  queueUp e h r = record { idle = inl h; full = inr r }
+
+  -- the oldest word leaves; another comes last for it, while a sender leaves or not
+  pub take : (z : ℕ) (b′ : List ℕ) → b ≡ z ∷ b′ → x ≡ [] → QueueOk (qview c b′ x y)
+  take z b′ h r = record { idle = inl (noReceiver h); full = inl r }
+
+  as-long : (z w : ℕ) (b′ : List ℕ) → b ≡ z ∷ b′ → c ≤ length b → c ≤ length (b′ ++ (w ∷ []))
+  as-long z w b′ h r = let g : length b ≡ suc (length b′) = ap length h in rw (length-append b′ (w ∷ [])) (omega arith)
+
+  pub refill : (z : ℕ) (b′ : List ℕ) (e : Waiter) (l : List Waiter) → b ≡ z ∷ b′ → x ≡ e ∷ l → QueueOk (qview c (b′ ++ (e .word ∷ [])) l y)
+  refill z b′ e l h r = record { idle = inl (noReceiver h); full = go (k .full) }
     where
       go : (x ≡ []) ⊎ (c ≤ length b) → (l ≡ []) ⊎ (c ≤ length (b′ ++ (e .word ∷ [])))
       go (inl q) = absurd (cons-ne r q)
-      go (inr q) = inr (let g : length b ≡ suc (length b′) = ap length h in rw (length-append b′ (e .word ∷ [])) (omega arith))
+      go (inr q) = inr (as-long z (e .word) b′ h q)
 
-  pub direct : (e : Waiter) (l : List Waiter) → b ≡ [] → x ≡ e ∷ l → Kept (qview c b x y) (qview c b l y) (e .word ∷ []) []
-  direct e l h r = record {
-    flow = rw (h, r) (sym (append-nil (e .word ∷ wordsIn l)));
-    fine = record { idle = inl (go (k .idle)); full = go₂ (k .full) };
-  }
+  pub replace : (z w : ℕ) (b′ : List ℕ) → b ≡ z ∷ b′ → c ≤ length b → QueueOk (qview c (b′ ++ (w ∷ [])) x y)
+  replace z w b′ h r = record { idle = inl (noReceiver h); full = inr (as-long z w b′ h r) }
+
+  -- a sender's word is handed out; a receiver joins
+  pub direct : (e : Waiter) (l : List Waiter) → x ≡ e ∷ l → QueueOk (qview c b l y)
+  direct e l r = record { idle = inl (go (k .idle)); full = go₂ (k .full) }
     where
       go : (y ≡ []) ⊎ ((b ≡ []) × (x ≡ [])) → y ≡ []
       go (inl z) = z
@@ -123,19 +99,17 @@ module _ (c : ℕ) (b : List ℕ) (x y : List Waiter) (k : QueueOk (qview c b x 
       go₂ (inl z) = absurd (cons-ne r z)
       go₂ (inr z) = inr z
 
-  pub await : (e : Waiter) → b ≡ [] → x ≡ [] → Kept (qview c b x y) (qview c b x (y ++ (e ∷ []))) [] []
-  await e h r = record {
-    flow = sym (append-nil (b ++ wordsIn x));
-    fine = record { idle = inr (h, r); full = inl r };
-  }
+  pub await : (e : Waiter) → b ≡ [] → x ≡ [] → QueueOk (qview c b x (y ++ (e ∷ [])))
+  await e h r = record { idle = inr (h, r); full = inl r }
 
-pub via : {v v′ v″ : QView} {given taken : List ℕ} → v″ ≡ v′ → Kept v v′ given taken → Kept v v″ given taken
-via {v} {given} {taken} e k = subst (λ (u : QView). Kept v u given taken) (sym e) k
+pub via : {v v′ : QView} → v′ ≡ v → QueueOk v → QueueOk v′
+via e k = subst QueueOk (sym e) k
 
--- ---- "both sends are normal operation 1 .. both receives are normal operation 2. Set-vector is management, refer is reference"
+-- ---- "both sends", and the forced send, "are normal operation 1 .. both receives are normal operation 2. Set-vector is management, refer is reference"
 pub governs : (v : Vector) (a : Act QueueCall) → patternOf v (operationOf operation a) ≡ patternFor v a
 governs v (own (send p w)) = refl
 governs v (own (receive p)) = refl
+governs v (own (forcedSend w)) = refl
 governs v refer = refl
 governs v (setVector w) = refl
 
@@ -164,6 +138,12 @@ module _ (ws : List Waiter) (xs : List Queue) (t q : ℕ) where
     pub receivePasses : (p : Patience) (e : Waiter) (l : List Waiter) → queueIn xs q .buffer ≡ [] → waitersIn ws (place sending q) ≡ e ∷ l → P (receive p) (wakes ws xs e (e .word) 0)
     pub receiveFails : queueIn xs q .buffer ≡ [] → waitersIn ws (place sending q) ≡ [] → P (receive polling) (refusal ws xs eTmout)
     pub receiveWaits : queueIn xs q .buffer ≡ [] → waitersIn ws (place sending q) ≡ [] → P (receive forever) (effect (say waiting 0 []) (join (waiter t receiving q 0) ws) xs)
+    pub forceMisused : (w : ℕ) → queueIn xs q .capacity ≡ 0 → P (forcedSend w) (refusal ws xs eIluse)
+    pub forcePasses : (w : ℕ) (e : Waiter) (l : List Waiter) → queueIn xs q .capacity ≢ 0 → waitersIn ws (place receiving q) ≡ e ∷ l → P (forcedSend w) (wakes ws xs e 0 w)
+    pub forceStores : (w : ℕ) → waitersIn ws (place receiving q) ≡ [] → ltb (length (queueIn xs q .buffer)) (queueIn xs q .capacity) ≡ true
+        → P (forcedSend w) (gives ws (setBuffer xs q (queueIn xs q .buffer ++ (w ∷ []))) 0)
+    pub forceDrops : (w z : ℕ) (b : List ℕ) → waitersIn ws (place receiving q) ≡ [] → ltb (length (queueIn xs q .buffer)) (queueIn xs q .capacity) ≡ false → queueIn xs q .buffer ≡ z ∷ b
+        → P (forcedSend w) (gives ws (setBuffer xs q (b ++ (w ∷ []))) 0)
 
   module _ (P : QueueCall → Effect Queue → Type 0) (cs : Cases P) where
     pub cover : (c : QueueCall) → P c (does ws xs t q c)
@@ -182,6 +162,19 @@ module _ (ws : List Waiter) (xs : List Queue) (t q : ℕ) where
         go p [] (e ∷ l) h k = cs .receivePasses p e l h k
         go polling [] [] h k = cs .receiveFails h k
         go forever [] [] h k = cs .receiveWaits h k
+    cover (forcedSend w) = go (eqb (queueIn xs q .capacity) 0) (waitersIn ws (place receiving q)) (hasRoom (queueIn xs q)) refl refl refl
+      where
+        -- what is full and has a capacity has an oldest word
+        full : (b : List ℕ) → queueIn xs q .buffer ≡ b → queueIn xs q .capacity ≢ 0 → waitersIn ws (place receiving q) ≡ [] → hasRoom (queueIn xs q) ≡ false
+            → P (forcedSend w) (gives ws (setBuffer xs q (drop 1 b ++ (w ∷ []))) 0)
+        full [] e n h k = absurd (n (omega (arith, ltb-false (length (queueIn xs q .buffer)) (queueIn xs q .capacity) k, ap length e)))
+        full (z ∷ b) e n h k = cs .forceDrops w z b h k e
+
+        go : (none : Bool) (l : List Waiter) (room : Bool) → eqb (queueIn xs q .capacity) 0 ≡ none → waitersIn ws (place receiving q) ≡ l → hasRoom (queueIn xs q) ≡ room → P (forcedSend w) (forceBy ws xs q w none l room)
+        go true l room n h k = cs .forceMisused w (eq-of _ 0 n)
+        go false (e ∷ l) room n h k = cs .forcePasses w e l (ne-of _ 0 n) h
+        go false [] true n h k = cs .forceStores w h k
+        go false [] false n h k = full (queueIn xs q .buffer) refl (ne-of _ 0 n) h k
 
   abbrev EndsSo : QueueCall → Effect Queue → Type 0
   EndsSo c o = Ends Queue ws xs t (isAt tag q) (SameBut noQueue entry q xs) (begins t q c) (serves q c) o
@@ -197,51 +190,69 @@ module _ (ws : List Waiter) (xs : List Queue) (t q : ℕ) where
     receivePasses = λ p e l h r. Endings.wakes xs (place sending q) e l (e .word) 0 (same-all noQueue entry q xs) (is-at tag q (place sending q) refl refl) refl r;
     receiveFails = λ h r. Endings.refused eTmout late;
     receiveWaits = λ h r. Endings.waits (waiter t receiving q 0) refl (is-at tag q (place receiving q) refl refl) refl tt;
+    forceMisused = λ w h. Endings.refused eIluse misused;
+    forcePasses = λ w e l n h. Endings.wakes xs (place receiving q) e l 0 w (same-all noQueue entry q xs) (is-at tag q (place receiving q) refl refl) refl h;
+    forceStores = λ w h r. Endings.gives _ 0 (same-put noQueue entry q xs _ refl) h;
+    forceDrops = λ w z b h r f. Endings.gives _ 0 (same-put noQueue entry q xs _ refl) h;
   }) c
     where
       late : eTmout ≢ eOacv
       late k = let z : _≡_ {A = ℕ} 0 1 = cc in omega arith
 
-  -- the words handed out, taken in and held
+      misused : eIluse ≢ eOacv
+      misused k = let z : _≡_ {A = ℕ} 0 1 = cc in omega arith
+
+  -- it leaves its queue fine
   module _ (h : q ≢ 0) (r : q ≤ length xs) (d : Distinct ws) (k : QueueOk (viewIn ws xs q)) where
     refilled : (b : List ℕ) {l m x y : List Waiter} → l ≡ x → m ≡ y → qview (queueIn (setBuffer xs q b) q .capacity) (queueIn (setBuffer xs q b) q .buffer) l m ≡ qview (queueIn xs q .capacity) b x y
     refilled b e f = let z = at-put-same noQueue xs q (record { domain = queueIn xs q .domain; attribute = queueIn xs q .attribute; capacity = queueIn xs q .capacity; buffer = b; vector = queueIn xs q .vector }) h r in
         qview-eq (ap (λ (x : Queue). x .capacity) z) (ap (λ (x : Queue). x .buffer) z) e f
 
-    abbrev FlowLaw : QueueCall → Effect Queue → Type 0
-    FlowLaw c o = Kept (viewIn ws xs q) (viewIn (o .waits) (o .records) q) (whenOk [] (handedIn (o .answer) c) (o .answer .code)) (whenAccepted [] (sentIn c) (o .answer .code))
+    abbrev FineLaw : QueueCall → Effect Queue → Type 0
+    FineLaw c o = QueueOk (viewIn (o .waits) (o .records) q)
 
-    pub flows : (a : Act QueueCall) → Kept (viewIn ws xs q) (viewIn (actOn room ws xs t q a .waits) (actOn room ws xs t q a .records) q)
-        (whenOk [] (ofOwn [] (handedIn (actOn room ws xs t q a .answer)) a) (actOn room ws xs t q a .answer .code)) (whenAccepted [] (ofOwn [] sentIn a) (actOn room ws xs t q a .answer .code))
-    flows refer = stay _ _ refl k
-    flows (setVector v) = stay (viewIn ws xs q) (viewIn ws (setVectorOf room xs q v) q)
-        (qview-eq (at-put-keep (λ (x : Queue). x .capacity) noQueue xs q q _ refl) (at-put-keep (λ (x : Queue). x .buffer) noQueue xs q q _ refl) refl refl) k
-    flows (own c) = cover FlowLaw (record {
-      sendPasses = λ p w e l f. via (qview-eq refl refl (leave-elsewhere ws (place receiving q) (place sending q) d refl f) (leave-here ws (place receiving q) d f)) (pass _ _ _ _ k w f);
-      sendStores = λ p w f g. via (refilled (queueIn xs q .buffer ++ (w ∷ [])) refl refl) (store _ _ _ _ k w f (ltb-true _ _ g));
-      sendFails = λ w f g. stay _ _ refl k;
+    pub fine-here : (a : Act QueueCall) → QueueOk (viewIn (actOn room ws xs t q a .waits) (actOn room ws xs t q a .records) q)
+    fine-here refer = k
+    fine-here (setVector v) = via (qview-eq (at-put-keep (λ (x : Queue). x .capacity) noQueue xs q q _ refl) (at-put-keep (λ (x : Queue). x .buffer) noQueue xs q q _ refl) refl refl) k
+    fine-here (own c) = cover FineLaw (record {
+      sendPasses = λ p w e l f. passed f;
+      sendStores = λ p w f g. stored w f g;
+      sendFails = λ w f g. k;
       sendWaits = λ w f g. via (qview-eq refl refl (join-here ws (waiter t sending q w) (place sending q) (alike (place sending q))) (join-elsewhere ws (waiter t sending q w) (place receiving q) refl))
           (queueUp _ _ _ _ k (waiter t sending q w) f (ltb-false _ _ g));
       receives = λ p x b f g. via (refilled b refl refl) (take _ _ _ _ k x b f g);
       receiveRefills = λ p x b e l f g. via (refilled (b ++ (e .word ∷ [])) (leave-here ws (place sending q) d g) (leave-elsewhere ws (place sending q) (place receiving q) d refl g)) (refill _ _ _ _ k x b e l f g);
-      receivePasses = λ p e l f g. via (qview-eq refl refl (leave-here ws (place sending q) d g) (leave-elsewhere ws (place sending q) (place receiving q) d refl g)) (direct _ _ _ _ k e l f g);
-      receiveFails = λ f g. stay _ _ refl k;
+      receivePasses = λ p e l f g. via (qview-eq refl refl (leave-here ws (place sending q) d g) (leave-elsewhere ws (place sending q) (place receiving q) d refl g)) (direct _ _ _ _ k e l g);
+      receiveFails = λ f g. k;
       receiveWaits = λ f g. via (qview-eq refl refl (join-elsewhere ws (waiter t receiving q 0) (place sending q) refl) (join-here ws (waiter t receiving q 0) (place receiving q) (alike (place receiving q))))
           (await _ _ _ _ k (waiter t receiving q 0) f g);
+      forceMisused = λ w f. k;
+      forcePasses = λ w e l n f. passed f;
+      forceStores = λ w f g. stored w f g;
+      forceDrops = λ w z b f g j. via (refilled (b ++ (w ∷ [])) refl refl) (replace _ _ _ _ k z w b j (ltb-false _ _ g));
     }) c
+      where
+        passed : {e : Waiter} {l : List Waiter} → waitersIn ws (place receiving q) ≡ e ∷ l → QueueOk (viewIn (leave (e .task) ws) xs q)
+        passed f = via (qview-eq refl refl (leave-elsewhere ws (place receiving q) (place sending q) d refl f) (leave-here ws (place receiving q) d f)) (pass _ _ _ _ k f)
+
+        stored : (w : ℕ) → waitersIn ws (place receiving q) ≡ [] → ltb (length (queueIn xs q .buffer)) (queueIn xs q .capacity) ≡ true → QueueOk (viewIn ws (setBuffer xs q (queueIn xs q .buffer ++ (w ∷ []))) q)
+        stored w f g = via (refilled (queueIn xs q .buffer ++ (w ∷ [])) refl refl) (store _ _ _ _ k w f (ltb-true _ _ g))
 
 -- ---- the room
 pub begins-mine : (t q : ℕ) (c : QueueCall) → All (λ (e : Waiter). isAt tag q (e .place) ≡ true) (begins t q c)
 begins-mine t q (send p w) = (is-at tag q (place sending q) refl refl, tt)
 begins-mine t q (receive p) = (is-at tag q (place receiving q) refl refl, tt)
+begins-mine t q (forcedSend w) = (is-at tag q (place sending q) refl refl, tt)
 
 pub begins-plain : (s : State) (t q : ℕ) → q ≢ 0 → q ≤ length (s .queues) → (c : QueueCall) → All (λ (e : Waiter). Plain e × Registered s e) (begins t q c)
 begins-plain s t q h r (send p w) = (((h, tt), r), tt)
 begins-plain s t q h r (receive p) = (((h, refl), r), tt)
+begins-plain s t q h r (forcedSend w) = (((h, tt), r), tt)
 
 pub serves-no : (q : ℕ) (e : Err) (c : QueueCall) → serves q c (error e) ≡ none
 serves-no q e (send p w) = refl
 serves-no q e (receive p) = refl
+serves-no q e (forcedSend w) = refl
 
 abbrev pub laws : RoomLaws room
 laws = record {

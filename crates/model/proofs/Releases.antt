@@ -13,7 +13,7 @@ use Rattle.model.specs.Waits.{standsAt, isOther, waitersIn, leave}
 use Rattle.model.specs.Acts.{own, refer, setVector}
 use Rattle.model.specs.Rooms.{Asks}
 use Rattle.model.specs.Semaphores.{signal, acquire}
-use Rattle.model.specs.Queues.{send, receive}
+use Rattle.model.specs.Queues.{send, receive, forcedSend}
 use Rattle.model.specs.Calls.{Op, onSemaphore, onQueue, Call, asks, step}
 use Rattle.model.specs.History.{event, after, history}
 use Rattle.model.specs.Releases.{servedBy, WaitsAt, WaitsNot, EndsWait, ReleasesWaiters}
@@ -30,6 +30,7 @@ served-is (onSemaphore n refer) = refl
 served-is (onSemaphore n (setVector v)) = refl
 served-is (onQueue n (own (send p w))) = refl
 served-is (onQueue n (own (receive p))) = refl
+served-is (onQueue n (own (forcedSend w))) = refl
 served-is (onQueue n refer) = refl
 served-is (onQueue n (setVector v)) = refl
 

@@ -12,9 +12,9 @@ use Rattle.model.specs.Releases.{ReleasesWaiters}
 
 -- ---- demand 3, of a history h (the newest call first) that began in the state s₀ and ended in s
 pub record Demand3 (s₀ : State) (h : History) (s : State) : Type 0 where
-  -- for every queue, of the calls as it saw them: no word is lost or doubled, each came from and went to whom the queue's vector admitted,
+  -- for every queue, of the calls as it saw them: every accepted word is in one place, in order; each came from and went to whom the queue's vector admitted,
   -- and the waiting senders are those whose send answered "waiting" and whose release no later answer shows
-  pub queues : (q : ℕ) → Carried (domainAt s₀) (queueAt s₀ q .vector) (byQueue q h) (queueAt s q .buffer) (senders s q)
+  pub queues : (q : ℕ) → Carried (domainAt s₀) (queueAt s₀ q) (byQueue q h) (queueAt s q .buffer) (senders s q)
   -- for every semaphore: count + grants = start + accepted signals
   pub semaphores : (i : ℕ) → Counted (semAt s₀ i .count) (bySemaphore i h) (semAt s i .count)
   -- all who wait are exactly those whose call answered "waiting" and whose release no later answer shows, each where that call put it, in call order

@@ -15,6 +15,7 @@ pub mod Calls
 pub mod Conditions
 pub mod History
 pub mod SemaphoreClaims
+pub mod Sends
 pub mod QueueClaims
 pub mod Releases
 pub mod Demand3

@@ -51,7 +51,8 @@ module _ {A : Type 0} where
   Some P [] = ⊥
   Some P (x ∷ l) = P x ⊎ Some P l
 
-  -- ---- of a list whose newest element stands first: the words of all, the total, and a claim about every element and what was before it
+  -- ---- of a list whose newest element stands first: the words of all, the total, a claim about every element and what was before it,
+  -- and what every element gives by what was before it, in their order
   abbrev pub words : (A → List ℕ) → List A → List ℕ
   words f [] = []
   words f (x ∷ l) = words f l ++ f x
@@ -63,3 +64,7 @@ module _ {A : Type 0} where
   abbrev pub Each : (A → List A → Type 0) → List A → Type 0
   Each P [] = Unit
   Each P (x ∷ l) = P x l × Each P l
+
+  abbrev pub gathered : {B : Type 0} → (A → List A → List B) → List A → List B
+  gathered f [] = []
+  gathered f (x ∷ l) = gathered f l ++ f x l

@@ -1,19 +1,21 @@
 -- What is claimed of the calls on one data queue: its part of demand 3. Definitions only.
 use mathlib.Core.Path.{_≡_}
-use mathlib.Core.Bool.{Bool, true, false, cond, not, _&&_}
+use mathlib.Core.Bool.{Bool, true, false, cond, _&&_}
 use mathlib.Core.List.{List, [], _∷_, _++_, map}
 use mathlib.Core.Option.{Option, none, some}
-use Prim.Native.Nat.{ℕ}
+use Prim.Native.Nat.{ℕ, _+_}
 use lib.Dec.{eqb, T}
 use lib.IntN.{ℤ}
+use lib.ListN.{length}
 use Rattle.access.specs.Patterns.{admitted}
-use Rattle.model.specs.Lists.{All, keep, words, Each}
-use Rattle.model.specs.State.{Vector, Side, receiving, sending, Waiter, no}
-use Rattle.model.specs.Answers.{Released, Answer, whenOk, whenWaiting, whenAccepted}
+use Rattle.model.specs.Lists.{All, keep, Each, gathered}
+use Rattle.model.specs.State.{Vector, Queue, Side, receiving, sending, Waiter, no}
+use Rattle.model.specs.Answers.{Released, whenOk, whenWaiting, whenAccepted}
 use Rattle.model.specs.Acts.{Act, own, refer, setVector}
-use Rattle.model.specs.Queues.{QueueCall, send, receive}
+use Rattle.model.specs.Queues.{QueueCall, send, receive, forcedSend}
 use Rattle.model.specs.Calls.{Op, onSemaphore, onQueue}
 use Rattle.model.specs.History.{History, Made, seenBy, askedIf, ofAsked, vectorSince}
+use Rattle.model.specs.Sends.{Sent, wordOf, unforced, times, Ascending, acceptedOf, waitingSends, withdrawn, entered, handed, findsFull, buffered, drops, dropped, hands, handedOut, leaves}
 
 -- ---- a history as queue q sees it
 abbrev pub askedOf : ℕ → Op → Option (Act QueueCall)
@@ -23,10 +25,11 @@ askedOf q (onQueue n a) = askedIf (eqb q (no n)) a
 abbrev pub byQueue : ℕ → History → List (Made QueueCall)
 byQueue q h = map (seenBy (askedOf q)) h
 
--- ---- the pattern that governs a call: both sends are normal operation 1; both receives are normal operation 2; set-vector is management, refer is reference
+-- ---- the pattern that governs a call: all sends are normal operation 1; both receives are normal operation 2; set-vector is management, refer is reference
 abbrev pub patternFor : Vector → Act QueueCall → ℕ
 patternFor v (own (send p w)) = v .normal1
 patternFor v (own (receive p)) = v .normal2
+patternFor v (own (forcedSend w)) = v .normal1
 patternFor v refer = v .reference
 patternFor v (setVector w) = v .management
 
@@ -35,46 +38,21 @@ patternFor v (setVector w) = v .management
 abbrev pub sentIn : QueueCall → List ℕ
 sentIn (send p w) = w ∷ []
 sentIn (receive p) = []
+sentIn (forcedSend w) = w ∷ []
 
 abbrev pub sent : Made QueueCall → List ℕ
 sent m = whenAccepted [] (ofAsked [] sentIn (m .asked)) (m .answer .code)
 
--- a word is handed out in a receive's E_OK or with a receiver that a send releases
-abbrev pub wordsOf : List Released → List ℕ
-wordsOf rs = map (λ (r : Released). r .word) rs
-
-abbrev pub handedIn : Answer → QueueCall → List ℕ
-handedIn a (send p w) = wordsOf (a .released)
-handedIn a (receive p) = a .word ∷ []
-
-abbrev pub handed : Made QueueCall → List ℕ
-handed m = whenOk [] (ofAsked [] (handedIn (m .answer)) (m .asked)) (m .answer .code)
-
--- the tasks whose send answered "waiting" and whose release no later answer shows, each with that send's word
+-- a waiting sender, as the state and as its send show it: the task and its word
 pub record Sender : Type 0 where
   pub task : ℕ
   pub word : ℕ
 
-abbrev pub sendIn : ℕ → QueueCall → List Sender
-sendIn t (send p w) = record { task = t; word = w } ∷ []
-sendIn t (receive p) = []
-
-abbrev pub sendBegun : Made QueueCall → List Sender
-sendBegun m = whenWaiting [] (ofAsked [] (sendIn (m .caller)) (m .asked)) (m .answer .code)
-
-abbrev pub notTask : ℕ → Sender → Bool
-notTask t x = not (eqb t (x .task))
-
-abbrev pub unreleased : List Released → List Sender → List Sender
-unreleased [] l = l
-unreleased (r ∷ rs) l = unreleased rs (keep (notTask (r .task)) l)
-
-abbrev pub waitingSends : List (Made QueueCall) → List Sender
-waitingSends [] = []
-waitingSends (m ∷ h) = unreleased (m .answer .released) (waitingSends h) ++ sendBegun m
-
 abbrev pub senderOf : Waiter → Sender
 senderOf e = record { task = e .task; word = e .word }
+
+abbrev pub senderIn : Sent → Sender
+senderIn x = record { task = x .task; word = x .word }
 
 abbrev pub wordsIn : List Waiter → List ℕ
 wordsIn l = map (λ (e : Waiter). e .word) l
@@ -83,6 +61,7 @@ wordsIn l = map (λ (e : Waiter). e .word) l
 abbrev pub servedIn : QueueCall → Option Side
 servedIn (send p w) = some receiving
 servedIn (receive p) = some sending
+servedIn (forcedSend w) = some receiving
 
 -- a call of task t that answered "waiting"
 abbrev pub began : ℕ → Made QueueCall → Bool
@@ -91,6 +70,7 @@ began t m = whenWaiting false true (m .answer .code) && eqb t (m .caller)
 abbrev pub IsReceive : QueueCall → Type 0
 IsReceive (send p w) = ⊥
 IsReceive (receive p) = Unit
+IsReceive (forcedSend w) = ⊥
 
 -- ---- who may: `domain` gives each task's, and the queue began with the vector v
 module _ (domain : ℕ → ℤ) (v : Vector) where
@@ -116,18 +96,36 @@ module _ (domain : ℕ → ℤ) (v : Vector) where
   abbrev pub TakenIn : Made QueueCall → List (Made QueueCall) → QueueCall → Type 0
   TakenIn m h (send p w) = All (λ (r : Released). Came (r .task) h) (m .answer .released)
   TakenIn m h (receive p) = T (mayReceive (m .caller) h)
+  TakenIn m h (forcedSend w) = All (λ (r : Released). Came (r .task) h) (m .answer .released)
 
   abbrev pub TakenAllowed : Made QueueCall → List (Made QueueCall) → Type 0
   TakenAllowed m h = whenOk Unit (ofAsked Unit (TakenIn m h) (m .asked)) (m .answer .code)
 
--- ---- demand 3, of the calls h (the newest first) as a queue with the vector v at the start saw them, which left it with this buffer and these senders
-pub record Carried (domain : ℕ → ℤ) (v : Vector) (h : List (Made QueueCall)) (buffer : List ℕ) (senders : List Waiter) : Type 0 where
-  -- the words handed out, then those buffered (oldest first), then those of the waiting senders (first to last)
-  -- are the words of the accepted sends in call order
-  pub conserved : words handed h ++ (buffer ++ wordsIn senders) ≡ words sent h
+-- ---- an answer hands out the words of the sends that entered or passed first, of all that stand in the line
+abbrev pub HandsFirst : ℕ → Made QueueCall → List (Made QueueCall) → Type 0
+HandsFirst c m h = handed m ≡ map wordOf (hands c m h)
+
+-- a forced send that finds the buffer full drops one word
+abbrev pub DropsOne : ℕ → Made QueueCall → List (Made QueueCall) → Type 0
+DropsOne c m h = length (drops c m h) ≡ findsFull c (buffered c h) m
+
+-- ---- demand 3 (its order by request T-05), of the calls h (the newest first) as the queue x, which began so, saw them, which left it with this buffer and these senders
+pub record Carried (domain : ℕ → ℤ) (x : Queue) (h : List (Made QueueCall)) (buffer : List ℕ) (senders : List Waiter) : Type 0 where
+  -- "words in the buffer and handed or dropped out stand in the order in which they entered the buffer or passed straight to a receiver"
+  pub ordered : gathered (leaves (x .capacity)) h ++ buffer ≡ map wordOf (entered h)
+  pub handedAre : Each (HandsFirst (x .capacity)) h
+  -- "every accepted word, told apart by its call, is in exactly one place: handed out, dropped, buffered, with a waiting sender, or withdrawn by T-04;
+  -- no other word is in any of them"
+  pub placed : (k : ℕ)
+      → times k (handedOut (x .capacity) h) + times k (dropped (x .capacity) h) + times k (buffered (x .capacity) h) + times k (waitingSends h) + times k (withdrawn h)
+      ≡ acceptedOf k h
+  -- "Dropped are just the words that accepted forced sends found oldest in a full buffer, one for each such send"
+  pub oneEach : Each (DropsOne (x .capacity)) h
+  -- "Sends not forced still enter or pass in call order", and those that wait come behind
+  pub inCallOrder : Ascending (keep unforced (entered h ++ waitingSends h))
   -- every accepted send came from a domain admitted when it called
-  pub sendersAllowed : Each (SentAllowed domain v) h
+  pub sendersAllowed : Each (SentAllowed domain (x .vector)) h
   -- every word handed out went to a receiver whose domain was admitted when it called
-  pub takersAllowed : Each (TakenAllowed domain v) h
+  pub takersAllowed : Each (TakenAllowed domain (x .vector)) h
   -- the waiting senders are exactly the tasks whose send answered "waiting" and whose release no later answer shows, each with that send's word
-  pub sendersAre : map senderOf senders ≡ waitingSends h
+  pub sendersAre : map senderOf senders ≡ map senderIn (waitingSends h)

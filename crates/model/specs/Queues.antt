@@ -1,33 +1,34 @@
--- Data queues: their calls, their entries and what each call on one does (document 01). Definitions only.
+-- Data queues: their calls, their entries and what each call on one does (document 01; forced send: request T-05). Definitions only.
 use mathlib.Core.Bool.{Bool, true, false}
 use mathlib.Core.List.{List, [], _∷_, _++_}
 use mathlib.Core.Option.{Option, none, some}
 use Prim.Native.Nat.{ℕ, _+_}
 use lib.Dec.{eqb, leb, ltb}
 use lib.IntN.{ℤ}
-use lib.ListN.{length}
+use lib.ListN.{length, drop}
 use Rattle.access.specs.Vectors.{resolved}
 use Rattle.access.specs.declared.vector.Choice.{Choice}
 use Rattle.access.specs.declared.vector.Operation.{Operation}
 use Rattle.access.specs.declared.vector.Operation.the-variants.{Normal1, Normal2}
-use Rattle.itron.specs.Codes.{Code}
+use Rattle.itron.specs.Codes.{Code, eIluse}
 use Rattle.itron.specs.Limits.{maxCapacity, maxQueues, maxWords}
 pub use Rattle.model.specs.declared.dtq.QueueCall.{QueueCall}
-pub use Rattle.model.specs.declared.dtq.QueueCall.the-variants.{Send as send, Receive as receive}
+pub use Rattle.model.specs.declared.dtq.QueueCall.the-variants.{Send as send, Receive as receive, ForcedSend as forcedSend}
 use Rattle.model.specs.declared.dtq.QueueRequest.{QueueRequest}
 use Rattle.model.specs.declared.dtq.QueueRequest.the-variants as Request
 use Rattle.model.specs.Lists.{at, put}
 use Rattle.model.specs.State.{Vector, Queue, Waiter, Place, receiving, sending, place, waiter, noQueue, setWaits, setQueues}
 use Rattle.model.specs.Answers.{Effect, Info, whenOk, whenAccepted}
-use Rattle.model.specs.Waits.{Patience, waitersIn, firstTask, wakes, orWaits, gives}
+use Rattle.model.specs.Waits.{Patience, waitersIn, firstTask, refusal, wakes, orWaits, gives}
 use Rattle.model.specs.Acts.{Act, own, refer, setVector, Slots, clear}
 use Rattle.model.specs.Rooms.{Room}
 
--- ---- the calls: both sends, of a word, and both receives
--- both sends are normal operation 1; both receives are normal operation 2
+-- ---- the calls: both sends, of a word, both receives, and the forced send, of a word
+-- all sends are normal operation 1; both receives are normal operation 2
 abbrev pub operation : QueueCall → Operation
 operation (send p w) = Normal1
 operation (receive p) = Normal2
+operation (forcedSend w) = Normal1
 
 -- besides the checks of every call there are none
 abbrev pub slots : List Waiter → List Queue → ℕ → QueueCall → Slots
@@ -37,12 +38,14 @@ slots ws xs q c = clear
 abbrev pub begins : ℕ → ℕ → QueueCall → List Waiter
 begins t q (send p w) = waiter t sending q w ∷ []
 begins t q (receive p) = waiter t receiving q 0 ∷ []
+begins t q (forcedSend w) = waiter t sending q w ∷ []
 
--- for a receiver the accepted call of the opposite kind is a send, for a sender a receive;
+-- for a receiver the accepted call of the opposite kind is a send of any kind, for a sender a receive;
 -- a send is accepted also when it answers "waiting", a receive when it answers E_OK
 abbrev pub serves : ℕ → QueueCall → Code → Option Place
 serves q (send p w) k = whenAccepted none (some (place receiving q)) k
 serves q (receive p) k = whenOk none (some (place sending q)) k
+serves q (forcedSend w) k = whenAccepted none (some (place receiving q)) k
 
 -- what the program is asked for
 abbrev pub actOf : QueueRequest → Act QueueCall
@@ -104,9 +107,21 @@ receiveBy ws xs t q p [] [] = orWaits ws xs p (waiter t receiving q 0)
 abbrev pub onReceive : List Waiter → List Queue → ℕ → ℕ → Patience → Effect Queue
 onReceive ws xs t q p = receiveBy ws xs t q p (queueIn xs q .buffer) (waitersIn ws (place sending q))
 
+-- forced send: on capacity 0 it is E_ILUSE, even with a waiting receiver; with a waiting receiver and with room it is as a send;
+-- into a full buffer: the oldest word is dropped and its own goes last
+abbrev pub forceBy : List Waiter → List Queue → ℕ → ℕ → Bool → List Waiter → Bool → Effect Queue
+forceBy ws xs q w true l room = refusal ws xs eIluse
+forceBy ws xs q w false (e ∷ l) room = wakes ws xs e 0 w
+forceBy ws xs q w false [] true = gives ws (setBuffer xs q (queueIn xs q .buffer ++ (w ∷ []))) 0
+forceBy ws xs q w false [] false = gives ws (setBuffer xs q (drop 1 (queueIn xs q .buffer) ++ (w ∷ []))) 0
+
+abbrev pub onForce : List Waiter → List Queue → ℕ → ℕ → Effect Queue
+onForce ws xs q w = forceBy ws xs q w (eqb (queueIn xs q .capacity) 0) (waitersIn ws (place receiving q)) (hasRoom (queueIn xs q))
+
 abbrev pub does : List Waiter → List Queue → ℕ → ℕ → QueueCall → Effect Queue
 does ws xs t q (send p w) = onSend ws xs t q w p
 does ws xs t q (receive p) = onReceive ws xs t q p
+does ws xs t q (forcedSend w) = onForce ws xs q w
 
 -- refer: first waiting sender, first waiting receiver, number of buffered words, vector
 abbrev pub told : List Waiter → List Queue → ℕ → Info

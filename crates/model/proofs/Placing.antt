@@ -1,0 +1,235 @@
+-- What one call does to the sends on a data queue: which enter or pass, leave, are dropped and wait. Assumes nothing.
+use mathlib.Core.Path.{_≡_, refl, sym, ap, _∙_, subst}
+use mathlib.Core.Logic.{_≢_}
+use mathlib.Core.Bool.{Bool, true, false, cond, not, _||_}
+use mathlib.Core.List.{List, [], _∷_, _++_, map, append-nil, head-eq-of-cons-eq, tail-eq-of-cons-eq}
+use mathlib.Core.Option.{Option, none, some}
+use Prim.Native.Nat.{ℕ, zero, suc, _≤_, _<_}
+use native.Mathlib.Omega.{arith}
+use lib.Dec.{eqb, leb, ltb}
+use lib.ListN.{length, take, drop, length-append, length-map}
+use borrow.Author.Tests.{ltb-true, ltb-false}
+use Rattle.itron.specs.Codes.{Err, eIluse, eTmout, Code, ok, waiting, error}
+use Rattle.model.specs.Lists.{keep, consIf}
+use Rattle.model.specs.State.{Vector, Queue, Waiter, receiving, sending, place, waiter, noQueue}
+use Rattle.model.specs.Answers.{Answer, Effect, say, tells, whenWaiting}
+use Rattle.model.specs.Waits.{Patience, polling, forever, waitersIn, freed}
+use Rattle.model.specs.Acts.{Act, own, refer, setVector}
+use Rattle.model.specs.Rooms.{actOn}
+use Rattle.model.specs.Queues.{QueueCall, send, receive, forcedSend, queueIn, setBuffer, does, told, room}
+use Rattle.model.specs.History.{Made}
+use Rattle.model.specs.Sends.{Sent, sentAs, wordOf, unforced, shown, notShown, waitingSends, accepts, enters, handed, fullIn, findsFull, buffered}
+use Rattle.model.specs.QueueClaims.{Sender, senderOf, senderIn, DropsOne}
+use Rattle.model.proofs.Lists.{Distinct, cons-ne, eqb-same, no-both, at-put-same, at-put-keep, keep-whole, keep-rest, map-append, map-parts}
+use Rattle.model.proofs.Tests.{holds, fails, le-tells}
+use Rattle.model.proofs.WaitQueues.{leave-here, leave-elsewhere}
+use Rattle.model.proofs.Rooms.{ok-same, accepted-same}
+use Rattle.model.proofs.Queues.{QueueOk, viewIn, cover, empty, unheld}
+use Rattle.model.proofs.Sends.{Line, inTurn, ahead, Moves}
+
+-- ---- lists
+nothing-mapped : {A B : Type 0} (f : A → B) (l : List A) → [] ≡ map f l → l ≡ []
+nothing-mapped f [] h = refl
+nothing-mapped f (x ∷ l) h = absurd (cons-ne refl (sym h))
+
+-- with nobody released all stay
+none-shown : (l : List Sent) → keep (notShown []) l ≡ l
+none-shown [] = refl
+none-shown (x ∷ l) = ap (λ (m : List Sent). x ∷ m) (none-shown l)
+
+waits-on : (l : List Sent) → keep (notShown []) l ++ [] ≡ l
+waits-on l = append-nil (keep (notShown []) l) ∙ none-shown l
+
+as-many : (x : List Waiter) (l : List Sent) → map senderOf x ≡ map senderIn l → length x ≡ length l
+as-many x l h = sym (length-map x senderOf) ∙ ap length h ∙ length-map l senderIn
+
+-- the first sender is released, and nobody else: its send is the first of those that waited
+first-freed : (e : Waiter) (x : List Waiter) (v : ℕ) (l : List Sent) → map senderOf (e ∷ x) ≡ map senderIn l → map senderOf x ≡ map senderIn (keep (notShown (freed e v)) l ++ [])
+    → (s : Sent) × ((s .word ≡ e .word) × ((keep (shown (freed e v)) l ≡ s ∷ []) × (s ∷ (keep (notShown (freed e v)) l ++ []) ≡ l)))
+first-freed e x v [] h k = absurd (cons-ne refl h)
+first-freed e x v (s ∷ l) h k = (s, (ap (λ (y : Sender). y .word) (sym same), (out, ap (λ (m : List Sent). s ∷ m) (append-nil (keep (notShown (freed e v)) (s ∷ l)) ∙ stay))))
+  where
+    same : senderOf e ≡ senderIn s
+    same = head-eq-of-cons-eq h
+
+    is-shown : shown (freed e v) s ≡ true
+    is-shown = rw (ap (λ (y : Sender). y .task) same, eqb-same (s .task)) refl
+
+    gone : keep (notShown (freed e v)) (s ∷ l) ≡ keep (notShown (freed e v)) l
+    gone = ap (λ (y : Bool). consIf (not y) s (keep (notShown (freed e v)) l)) is-shown
+
+    long : length (keep (notShown (freed e v)) l) ≡ length l
+    long =
+        ap length (sym gone)
+        ∙ ap length (sym (append-nil (keep (notShown (freed e v)) (s ∷ l))))
+        ∙ sym (as-many x (keep (notShown (freed e v)) (s ∷ l) ++ []) k)
+        ∙ as-many x l (tail-eq-of-cons-eq h)
+
+    stay : keep (notShown (freed e v)) (s ∷ l) ≡ l
+    stay = gone ∙ keep-whole (notShown (freed e v)) l long
+
+    out : keep (shown (freed e v)) (s ∷ l) ≡ s ∷ []
+    out = ap (λ (y : Bool). consIf y s (keep (shown (freed e v)) l)) is-shown ∙ ap (λ (m : List Sent). s ∷ m) (keep-rest (shown (freed e v)) l long)
+
+module _ (c : ℕ) (h : List (Made QueueCall)) (b : List ℕ) (words : b ≡ map wordOf (buffered c h)) where
+  -- a call that drops nothing
+  module _ (m : Made QueueCall) (b′ : List ℕ) (z : findsFull c (buffered c h) m ≡ 0) where
+    moves : handed m ++ b′ ≡ b ++ map wordOf (enters m h) → Line (enters m h) (waitingSends (m ∷ h)) (waitingSends h) (accepts m h) → Moves c m h b′
+    moves f t = record {
+      flow =
+          f
+          ∙ ap (λ (l : List ℕ). l ++ map wordOf (enters m h)) words
+          ∙ sym (map-append wordOf (buffered c h) (enters m h))
+          ∙ ap (λ (n : ℕ). map wordOf (drop n (buffered c h) ++ enters m h)) (sym z);
+      one = subst (λ (n : ℕ). length (take n (buffered c h)) ≡ n) (sym z) refl;
+      turn = t;
+    }
+
+    -- and lets nothing enter or leave
+    pub moves-none : handed m ≡ [] → enters m h ≡ [] → accepts m h ≡ [] → waitingSends (m ∷ h) ≡ waitingSends h → b′ ≡ b → Moves c m h b′
+    moves-none g e a w s = moves
+        (ap (λ (l : List ℕ). l ++ b′) g ∙ s ∙ sym (append-nil b) ∙ ap (λ (l : List Sent). b ++ map wordOf l) (sym e))
+        (inTurn ((λ i. e i ++ w i) ∙ sym (append-nil (waitingSends h)) ∙ ap (λ (l : List Sent). waitingSends h ++ l) (sym a)))
+
+  -- a call that is refused
+  pub refused-moves : (t : ℕ) (a : Option (Act QueueCall)) (e : Err) → Moves c (record { caller = t; asked = a; answer = say (error e) 0 [] }) h b
+  refused-moves t a e = moves-none (record { caller = t; asked = a; answer = say (error e) 0 [] }) b refl refl refl refl (waits-on (waitingSends h)) refl
+
+  -- a call on another object, which leaves this queue's buffer and senders as they were
+  pub elsewhere-moves : (t : ℕ) (a : Answer) (x : List Waiter) (b′ : List ℕ) → map senderOf x ≡ map senderIn (waitingSends h) → map senderOf x ≡ map senderIn (waitingSends (record { caller = t; asked = none; answer = a } ∷ h)) → b′ ≡ b
+      → Moves c (record { caller = t; asked = none; answer = a }) h b′
+  elsewhere-moves t a x b′ then now s = moves-none m b′ (ok-same 0 (a .code)) (ok-same {A = List ℕ} [] (a .code)) (ok-same {A = List Sent} [] (a .code)) (accepted-same {A = List Sent} [] (a .code)) waits s
+    where
+      m : Made QueueCall
+      m = record { caller = t; asked = none; answer = a }
+
+      nobody : (k : Code) → whenWaiting {A = List Sent} [] [] k ≡ []
+      nobody ok = refl
+      nobody waiting = refl
+      nobody (error e) = refl
+
+      whole : waitingSends (m ∷ h) ≡ keep (notShown (a .released)) (waitingSends h)
+      whole = ap (λ (l : List Sent). keep (notShown (a .released)) (waitingSends h) ++ l) (nobody (a .code)) ∙ append-nil (keep (notShown (a .released)) (waitingSends h))
+
+      waits : waitingSends (m ∷ h) ≡ waitingSends h
+      waits = whole ∙ keep-whole (notShown (a .released)) (waitingSends h) (ap length (sym whole) ∙ sym (as-many x (waitingSends (m ∷ h)) now) ∙ as-many x (waitingSends h) then)
+
+  -- a send whose word enters or passes while nobody waits to send
+  comes : (m : Made QueueCall) (x : Sent) (b′ : List ℕ) → findsFull c (buffered c h) m ≡ 0 → enters m h ≡ x ∷ [] → accepts m h ≡ x ∷ [] → waitingSends h ≡ [] → waitingSends (m ∷ h) ≡ [] → handed m ++ b′ ≡ b ++ (x .word ∷ [])
+      → Moves c m h b′
+  comes m x b′ z e a w w′ f = moves m b′ z (f ∙ ap (λ (l : List Sent). b ++ map wordOf l) (sym e)) (inTurn ((λ i. e i ++ w′ i) ∙ sym (λ i. w i ++ a i)))
+
+-- ---- a call on the queue
+module _ (ws : List Waiter) (xs : List Queue) (t q : ℕ) (hq : q ≢ 0) (r : q ≤ length xs) (d : Distinct ws) (k : QueueOk (viewIn ws xs q)) (h : List (Made QueueCall)) where
+  abbrev c : ℕ
+  c = queueIn xs q .capacity
+
+  abbrev b : List ℕ
+  b = queueIn xs q .buffer
+
+  module _ (words : b ≡ map wordOf (buffered c h)) (then : map senderOf (waitersIn ws (place sending q)) ≡ map senderIn (waitingSends h)) where
+    abbrev made : Act QueueCall → Answer → Made QueueCall
+    made a r = record { caller = t; asked = some a; answer = r }
+
+    -- if the senders that wait after it are those whose sends wait after it
+    abbrev PlaceLaw : QueueCall → Effect Queue → Type 0
+    PlaceLaw a o = map senderOf (waitersIn (o .waits) (place sending q)) ≡ map senderIn (waitingSends (made (own a) (o .answer) ∷ h)) → Moves c (made (own a) (o .answer)) h (queueIn (o .records) q .buffer)
+
+    refilled : (b′ : List ℕ) → queueIn (setBuffer xs q b′) q .buffer ≡ b′
+    refilled b′ = ap (λ (x : Queue). x .buffer) (at-put-same noQueue xs q (record { domain = queueIn xs q .domain; attribute = queueIn xs q .attribute; capacity = c; buffer = b′; vector = queueIn xs q .vector }) hq r)
+
+    no-sends : waitersIn ws (place sending q) ≡ [] → waitingSends h ≡ []
+    no-sends z = nothing-mapped senderIn (waitingSends h) (ap (map senderOf) (sym z) ∙ then)
+
+    as-long : length b ≡ length (buffered c h)
+    as-long = ap length words ∙ length-map (buffered c h) wordOf
+
+    -- a send of either kind that passes to a receiver, or goes into room
+    passes : (x : Sent) {e : Waiter} {l : List Waiter} → waitersIn ws (place receiving q) ≡ e ∷ l → (m : Made QueueCall) → findsFull c (buffered c h) m ≡ 0 → enters m h ≡ x ∷ [] → accepts m h ≡ x ∷ []
+        → waitingSends (m ∷ h) ≡ keep (notShown (m .answer .released)) (waitingSends h) ++ [] → handed m ≡ x .word ∷ [] → Moves c m h b
+    passes x f m z en ac wt hd =
+        let y = empty c b (waitersIn ws (place sending q)) (waitersIn ws (place receiving q)) k f in
+        let n = no-sends (y .1) in
+        comes c h b words m x b z en ac n (wt ∙ ap (λ (l : List Sent). keep (notShown (m .answer .released)) l ++ []) n)
+        (ap (λ (l : List ℕ). l ++ b) hd ∙ ap (λ (l : List ℕ). (x .word ∷ []) ++ l) (y .0) ∙ ap (λ (l : List ℕ). l ++ (x .word ∷ [])) (sym (y .0)))
+
+    stores : (x : Sent) → ltb (length b) c ≡ true → (m : Made QueueCall) → findsFull c (buffered c h) m ≡ 0 → enters m h ≡ x ∷ [] → accepts m h ≡ x ∷ []
+        → waitingSends (m ∷ h) ≡ keep (notShown (m .answer .released)) (waitingSends h) ++ [] → handed m ≡ [] → Moves c m h (queueIn (setBuffer xs q (b ++ (x .word ∷ []))) q .buffer)
+    stores x g m z en ac wt hd =
+        let n = no-sends (unheld c b (waitersIn ws (place sending q)) (waitersIn ws (place receiving q)) k (ltb-true (length b) c g)) in
+        comes c h b words m x _ z en ac n (wt ∙ ap (λ (l : List Sent). keep (notShown (m .answer .released)) l ++ []) n)
+        (ap (λ (l : List ℕ). l ++ queueIn (setBuffer xs q (b ++ (x .word ∷ []))) q .buffer) hd ∙ refilled (b ++ (x .word ∷ [])))
+
+    -- a receive that hands out v: with nobody released, and with the first sender released, whose word comes last
+    takes : (v : ℕ) (b′ : List ℕ) → b ≡ v ∷ b′ → waitersIn ws (place sending q) ≡ [] → (m : Made QueueCall) → findsFull c (buffered c h) m ≡ 0 → enters m h ≡ keep (shown (m .answer .released)) (waitingSends h) → accepts m h ≡ []
+        → waitingSends (m ∷ h) ≡ keep (notShown (m .answer .released)) (waitingSends h) ++ [] → handed m ≡ v ∷ [] → Moves c m h (queueIn (setBuffer xs q b′) q .buffer)
+    takes v b′ f g m z en ac wt hd =
+        let n = no-sends g in
+        let e = en ∙ ap (keep (shown (m .answer .released))) n in
+        moves c h b words m _ z
+        ((λ i. hd i ++ refilled b′ i) ∙ sym f ∙ sym (append-nil b) ∙ ap (λ (l : List Sent). b ++ map wordOf l) (sym e))
+        (inTurn ((λ i. e i ++ (wt ∙ ap (λ (l : List Sent). keep (notShown (m .answer .released)) l ++ []) n) i) ∙ sym (λ i. n i ++ ac i)))
+
+    releases : (v : ℕ) (b′ b″ : List ℕ) (e : Waiter) (l : List Waiter) → v ∷ b″ ≡ b ++ (e .word ∷ []) → b′ ≡ b″ → map senderOf (e ∷ l) ≡ map senderIn (waitingSends h)
+        → map senderOf l ≡ map senderIn (waitingSends (made (own (receive forever)) (say ok v (freed e 0)) ∷ h)) → (p : Patience) → Moves c (made (own (receive p)) (say ok v (freed e 0))) h b′
+    releases v b′ b″ e l f g first now p =
+        let y = first-freed e l 0 (waitingSends h) first now in
+        moves c h b words (made (own (receive p)) (say ok v (freed e 0))) b′ refl
+        (ap (λ (m : List ℕ). v ∷ m) g ∙ f ∙ ap (λ (n : ℕ). b ++ (n ∷ [])) (sym (y .1 .0)) ∙ ap (λ (m : List Sent). b ++ map wordOf m) (sym (y .1 .1 .0)))
+        (inTurn (ap (λ (m : List Sent). m ++ (keep (notShown (freed e 0)) (waitingSends h) ++ [])) (y .1 .1 .0) ∙ y .1 .1 .1 ∙ sym (append-nil (waitingSends h))))
+
+    -- whether a forced send finds the buffer full
+    with-room : (w : ℕ) → length b < c → fullIn c (buffered c h) (forcedSend w) ≡ 0
+    with-room w g = ap (λ (y : Bool). cond {A = ℕ} y 1 0) (fails (le-tells c (length (buffered c h))) (λ z. omega (arith, g, z, as-long)))
+
+    when-full : (w : ℕ) → c ≤ length b → fullIn c (buffered c h) (forcedSend w) ≡ 1
+    when-full w g = ap (λ (y : Bool). cond {A = ℕ} y 1 0) (holds (le-tells c (length (buffered c h))) (omega (arith, g, as-long)))
+
+    replaces : (w z : ℕ) (b′ : List ℕ) → c ≤ length b → b ≡ z ∷ b′ → Moves c (made (own (forcedSend w)) (say ok 0 [])) h (queueIn (setBuffer xs q (b′ ++ (w ∷ []))) q .buffer)
+    replaces w z b′ g f =
+        let l = buffered c h in
+        let p = map-parts wordOf (z ∷ []) b′ l (sym f ∙ words) in
+        let n = when-full w g in
+        record {
+          flow =
+              refilled (b′ ++ (w ∷ []))
+              ∙ ap (λ (m : List ℕ). m ++ (w ∷ [])) (p .1)
+              ∙ sym (map-append wordOf (drop 1 l) (sentAs (length h) t w true ∷ []))
+              ∙ ap (λ (i : ℕ). map wordOf (drop i l ++ (sentAs (length h) t w true ∷ []))) (sym n);
+          one = subst (λ (i : ℕ). length (take i l) ≡ i) (sym n) (sym (length-map (take 1 l) wordOf) ∙ ap length (sym (p .0)));
+          turn = ahead refl (waits-on (waitingSends h)) refl;
+        }
+
+    pub own-moves : (a : QueueCall) → PlaceLaw a (does ws xs t q a)
+    own-moves a = cover ws xs t q PlaceLaw (record {
+      sendPasses = λ p w e l f now. passes (sentAs (length h) t w false) f (made (own (send p w)) (say ok 0 (freed e w))) refl refl refl refl refl;
+      sendStores = λ p w f g now. stores (sentAs (length h) t w false) g (made (own (send p w)) (say ok 0 [])) refl refl refl refl refl;
+      sendFails = λ w f g now. refused-moves c h b words t (some (own (send polling w))) eTmout;
+      sendWaits = λ w f g now. moves c h b words (made (own (send forever w)) (say waiting 0 [])) b refl (sym (append-nil b)) (inTurn (ap (λ (l : List Sent). l ++ (sentAs (length h) t w false ∷ [])) (none-shown (waitingSends h))));
+      receives = λ p v b′ f g now. takes v b′ f g (made (own (receive p)) (say ok v [])) refl refl refl refl refl;
+      receiveRefills = λ p v b′ e l f g now. releases v _ (b′ ++ (e .word ∷ [])) e l (ap (λ (m : List ℕ). m ++ (e .word ∷ [])) (sym f)) (refilled (b′ ++ (e .word ∷ [])))
+          (ap (map senderOf) (sym g) ∙ then) (ap (map senderOf) (sym (leave-here ws (place sending q) d g)) ∙ now) p;
+      receivePasses = λ p e l f g now. releases (e .word) b [] e l (ap (λ (m : List ℕ). m ++ (e .word ∷ [])) (sym f)) f
+          (ap (map senderOf) (sym g) ∙ then) (ap (map senderOf) (sym (leave-here ws (place sending q) d g)) ∙ now) p;
+      receiveFails = λ f g now. refused-moves c h b words t (some (own (receive polling))) eTmout;
+      receiveWaits = λ f g now. moves-none c h b words (made (own (receive forever)) (say waiting 0 [])) b refl refl refl refl (waits-on (waitingSends h)) refl;
+      forceMisused = λ w f now. refused-moves c h b words t (some (own (forcedSend w))) eIluse;
+      forcePasses = λ w e l n f now. passes (sentAs (length h) t w true) f (made (own (forcedSend w)) (say ok 0 (freed e w))) (with-room w (positive n f)) refl refl refl refl;
+      forceStores = λ w f g now. stores (sentAs (length h) t w true) g (made (own (forcedSend w)) (say ok 0 [])) (with-room w (ltb-true (length b) c g)) refl refl refl refl;
+      forceDrops = λ w z b′ f g j now. replaces w z b′ (ltb-false (length b) c g) j;
+    }) a
+      where
+        -- who waits to receive finds nothing, so a queue with a capacity has room
+        positive : c ≢ 0 → {e : Waiter} {l : List Waiter} → waitersIn ws (place receiving q) ≡ e ∷ l → length b < c
+        positive n f = let y = ap length (empty c b (waitersIn ws (place sending q)) (waitersIn ws (place receiving q)) k f .0) in go c n y
+          where
+            go : (c : ℕ) → c ≢ 0 → length b ≡ 0 → length b < c
+            go zero n y = absurd (n refl)
+            go (suc c) n y = omega (arith, y)
+
+    -- a refer and a set-vector move nothing
+    pub act-moves : (a : Act QueueCall) → map senderOf (waitersIn (actOn room ws xs t q a .waits) (place sending q)) ≡ map senderIn (waitingSends (made a (actOn room ws xs t q a .answer) ∷ h))
+        → Moves c (made a (actOn room ws xs t q a .answer)) h (queueIn (actOn room ws xs t q a .records) q .buffer)
+    act-moves (own a) now = own-moves a now
+    act-moves refer now = moves-none c h b words (made refer (tells (told ws xs q))) b refl refl refl refl (waits-on (waitingSends h)) refl
+    act-moves (setVector v) now = moves-none c h b words (made (setVector v) (say ok 0 [])) _ refl refl refl refl (waits-on (waitingSends h)) (at-put-keep (λ (x : Queue). x .buffer) noQueue xs q q _ refl)

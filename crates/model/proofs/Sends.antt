@@ -1,0 +1,232 @@
+-- The sends on one data queue: from what one call does to them to what holds after any list of calls. Assumes nothing.
+use mathlib.Core.Path.{_≡_, refl, sym, ap, _∙_, subst}
+use mathlib.Core.Bool.{Bool, true, false, cond, not}
+use mathlib.Core.List.{List, [], _∷_, _++_, map, append-assoc, append-nil}
+use mathlib.Core.Option.{Option, none, some}
+use Prim.Native.Nat.{ℕ, suc, _+_, _≤_, _<_}
+use native.Mathlib.Omega.{arith}
+use lib.Dec.{eqb}
+use lib.ListN.{length, take, drop, length-append, take-append-drop}
+use Rattle.itron.specs.Codes.{Code, ok, waiting, error}
+use Rattle.model.specs.Lists.{All, keep, consIf, Each, gathered}
+use Rattle.model.specs.Answers.{whenAccepted}
+use Rattle.model.specs.Acts.{Act, own, refer, setVector}
+use Rattle.model.specs.Queues.{QueueCall, send, receive, forcedSend}
+use Rattle.model.specs.History.{Made}
+use Rattle.model.specs.Sends.{Sent, sendOf, wordOf, unforced, times, Ascending, accepts, acceptedOf, waitingSends, withdrawn, enters, entered, handed, findsFull, line, buffered, drops, dropped, hands, handedOut, leaves}
+use Rattle.model.specs.QueueClaims.{HandsFirst, DropsOne}
+use Rattle.model.proofs.Lists.{eq-of, ne-of, eqb-same, eqb-no, keep-append, map-append, map-parts, all-keep}
+
+-- ---- how many are of one call
+abbrev ofCall : ℕ → Sent → Bool
+ofCall k x = eqb k (x .call)
+
+pub times-append : (k : ℕ) (l m : List Sent) → times k (l ++ m) ≡ times k l + times k m
+times-append k l m = ap length (keep-append (ofCall k) l m) ∙ length-append (keep (ofCall k) l) (keep (ofCall k) m)
+
+times-split : (k n : ℕ) (l : List Sent) → times k (take n l) + times k (drop n l) ≡ times k l
+times-split k n l = sym (times-append k (take n l) (drop n l)) ∙ ap (times k) (take-append-drop n l)
+
+-- ---- what entered is handed out, dropped or in the buffer
+module _ (c : ℕ) where
+  pub entered-placed : (k : ℕ) (h : List (Made QueueCall)) → times k (handedOut c h) + times k (dropped c h) + times k (buffered c h) ≡ times k (entered h)
+  entered-placed k [] = refl
+  entered-placed k (m ∷ h) = omega (
+    arith,
+    entered-placed k h,
+    times-append k (handedOut c h) (hands c m h),
+    times-append k (dropped c h) (drops c m h),
+    times-append k (entered h) (enters m h),
+    times-split k (length (handed m)) (line c (buffered c h) m h),
+    times-append k (drop (findsFull c (buffered c h) m) (buffered c h)) (enters m h),
+    times-split k (findsFull c (buffered c h) m) (buffered c h)
+  )
+
+-- ---- the accepted sends, in call order
+abbrev pub accepted : List (Made QueueCall) → List Sent
+accepted h = gathered accepts h
+
+-- a call's send is of that call, and there is one at most
+abbrev Of : ℕ → List Sent → Type 0
+Of k l = All (λ (x : Sent). x .call ≡ k) l × (length l ≤ 1)
+
+none-of : (k : ℕ) → Of k []
+none-of k = (tt, omega arith)
+
+send-of : (m : Made QueueCall) (h : List (Made QueueCall)) → Of (length h) (sendOf m h)
+send-of m h = go (m .asked)
+  where
+    by : (a : Act QueueCall) → Of (length h) (sendOf (record { caller = m .caller; asked = some a; answer = m .answer }) h)
+    by (own (send p w)) = ((refl, tt), omega arith)
+    by (own (receive p)) = none-of (length h)
+    by (own (forcedSend w)) = ((refl, tt), omega arith)
+    by refer = none-of (length h)
+    by (setVector v) = none-of (length h)
+
+    go : (o : Option (Act QueueCall)) → Of (length h) (sendOf (record { caller = m .caller; asked = o; answer = m .answer }) h)
+    go none = none-of (length h)
+    go (some a) = by a
+
+accepts-of : (m : Made QueueCall) (h : List (Made QueueCall)) → Of (length h) (accepts m h)
+accepts-of m h = go (m .answer .code)
+  where
+    go : (k : Code) → Of (length h) (whenAccepted [] (sendOf m h) k)
+    go ok = send-of m h
+    go waiting = send-of m h
+    go (error e) = none-of (length h)
+
+-- of that call there are all of them, of another none
+times-same : (k : ℕ) (l : List Sent) → All (λ (x : Sent). x .call ≡ k) l → times k l ≡ length l
+times-same k [] f = refl
+times-same k (x ∷ l) f = ap (λ b. length (consIf b x (keep (ofCall k) l))) (ap (eqb k) (f .0) ∙ eqb-same k) ∙ ap suc (times-same k l (f .1))
+
+times-other : (k n : ℕ) (l : List Sent) → (k ≡ n → ⊥) → All (λ (x : Sent). x .call ≡ n) l → times k l ≡ 0
+times-other k n [] z f = refl
+times-other k n (x ∷ l) z f = ap (λ b. length (consIf b x (keep (ofCall k) l))) (ap (eqb k) (f .0) ∙ eqb-no k n z) ∙ times-other k n l z (f .1)
+
+times-newer : (k : ℕ) (l : List Sent) → All (λ (x : Sent). x .call < k) l → times k l ≡ 0
+times-newer k [] f = refl
+times-newer k (x ∷ l) f = ap (λ b. length (consIf b x (keep (ofCall k) l))) (eqb-no k (x .call) (λ e. omega (arith, e, f .0))) ∙ times-newer k l (f .1)
+
+-- ascending lists
+all-append : (P : Sent → Type 0) (l m : List Sent) → All P l → All P m → All P (l ++ m)
+all-append P [] m f g = g
+all-append P (x ∷ l) m f g = (f .0, all-append P l m (f .1) g)
+
+all-weaker : (P Q : Sent → Type 0) → ((x : Sent) → P x → Q x) → (l : List Sent) → All P l → All Q l
+all-weaker P Q g [] f = tt
+all-weaker P Q g (x ∷ l) f = (g x (f .0), all-weaker P Q g l (f .1))
+
+abbrev Below : ℕ → List Sent → Type 0
+Below k l = All (λ (x : Sent). x .call < k) l
+
+ascending-append : (k : ℕ) (l m : List Sent) → Ascending l → Below k l → Of k m → Ascending (l ++ m)
+ascending-append k [] [] a b o = tt
+ascending-append k [] (x ∷ []) a b o = (tt, tt)
+ascending-append k [] (x ∷ (y ∷ m)) a b o = absurd (omega (arith, o .1))
+ascending-append k (x ∷ l) m a b o = (
+  all-append (λ (y : Sent). x .call < y .call) l m (a .0) (all-weaker (λ (y : Sent). y .call ≡ k) (λ (y : Sent). x .call < y .call) (λ y e. omega (arith, e, b .0)) m (o .0)),
+  ascending-append k l m (a .1) (b .1) o,
+)
+
+pub ascending-keep : (p : Sent → Bool) (l : List Sent) → Ascending l → Ascending (keep p l)
+ascending-keep p [] a = tt
+ascending-keep p (x ∷ l) a = go (p x) (ascending-keep p l (a .1))
+  where
+    go : (b : Bool) → Ascending (keep p l) → Ascending (consIf b x (keep p l))
+    go true k = (all-keep (λ (y : Sent). x .call < y .call) p l (a .0), k)
+    go false k = k
+
+pub accepted-below : (h : List (Made QueueCall)) → Below (length h) (accepted h)
+accepted-below [] = tt
+accepted-below (m ∷ h) = all-append (λ (x : Sent). x .call < suc (length h)) (accepted h) (accepts m h)
+    (all-weaker (λ (x : Sent). x .call < length h) (λ (x : Sent). x .call < suc (length h)) (λ x f. omega (arith, f)) (accepted h) (accepted-below h))
+    (all-weaker (λ (x : Sent). x .call ≡ length h) (λ (x : Sent). x .call < suc (length h)) (λ x f. omega (arith, f)) (accepts m h) (accepts-of m h .0))
+
+pub accepted-ascends : (h : List (Made QueueCall)) → Ascending (accepted h)
+accepted-ascends [] = tt
+accepted-ascends (m ∷ h) = ascending-append (length h) (accepted h) (accepts m h) (accepted-ascends h) (accepted-below h) (accepts-of m h)
+
+-- each call's send once
+pub accepted-once : (k : ℕ) (h : List (Made QueueCall)) → times k (accepted h) ≡ acceptedOf k h
+accepted-once k [] = refl
+accepted-once k (m ∷ h) = times-append k (accepted h) (accepts m h) ∙ go (eqb k (length h)) refl (accepted-once k h)
+  where
+    go : (b : Bool) → eqb k (length h) ≡ b → times k (accepted h) ≡ acceptedOf k h → times k (accepted h) + times k (accepts m h) ≡ cond b (length (accepts m h)) (acceptedOf k h)
+    go true e ih =
+        let z = eq-of k (length h) e in
+        omega (arith, subst (λ (n : ℕ). times n (accepted h) ≡ 0) (sym z) (times-newer (length h) (accepted h) (accepted-below h)), subst (λ (n : ℕ). times n (accepts m h) ≡ length (accepts m h)) (sym z) (times-same (length h) (accepts m h) (accepts-of m h .0)))
+    go false e ih = omega (arith, ih, times-other k (length h) (accepts m h) (ne-of k (length h) e) (accepts-of m h .0))
+
+-- ---- what one call does: which sends enter, wait, waited and are accepted
+pub data Line (enter wait waited accept : List Sent) : Type 0 where
+  -- those that waited go in turn, and who comes is the last
+  inTurn : enter ++ wait ≡ waited ++ accept → Line enter wait waited accept
+  -- a forced send passes those that wait
+  ahead : enter ≡ accept → wait ≡ waited → keep unforced accept ≡ [] → Line enter wait waited accept
+
+line-times : (k : ℕ) {e w w′ a : List Sent} → Line e w w′ a → times k e + times k w ≡ times k w′ + times k a
+line-times k {e} {w} {w′} {a} (inTurn h) = sym (times-append k e w) ∙ ap (times k) h ∙ times-append k w′ a
+line-times k (ahead p q f) = omega (arith, ap (times k) p, ap (times k) q)
+
+line-keeps : {e w w′ a : List Sent} → Line e w w′ a → keep unforced (e ++ w) ≡ keep unforced (w′ ++ a)
+line-keeps (inTurn h) = ap (keep unforced) h
+line-keeps {e} {w} {w′} {a} (ahead p q f) =
+    keep-append unforced e w
+    ∙ (λ i. keep unforced (p i) ++ keep unforced (q i))
+    ∙ (λ i. f i ++ keep unforced w′)
+    ∙ sym (append-nil (keep unforced w′))
+    ∙ ap (λ (l : List Sent). keep unforced w′ ++ l) (sym f)
+    ∙ sym (keep-append unforced w′ a)
+
+module _ (c : ℕ) where
+  -- a call after the calls h, which leaves the buffer b′
+  pub record Moves (m : Made QueueCall) (h : List (Made QueueCall)) (b′ : List ℕ) : Type 0 where
+    -- what it hands out and what is in the buffer then are the words of the line
+    pub flow : handed m ++ b′ ≡ map wordOf (line c (buffered c h) m h)
+    pub one : DropsOne c m h
+    pub turn : Line (enters m h) (waitingSends (m ∷ h)) (waitingSends h) (accepts m h)
+
+  -- ---- what holds after the calls h, which left the buffer b
+  pub record Held (h : List (Made QueueCall)) (b : List ℕ) : Type 0 where
+    pub words : b ≡ map wordOf (buffered c h)
+    pub ordered : gathered (leaves c) h ++ b ≡ map wordOf (entered h)
+    pub handedAre : Each (HandsFirst c) h
+    pub oneEach : Each (DropsOne c) h
+    pub counted : (k : ℕ) → times k (entered h) + times k (waitingSends h) ≡ times k (accepted h)
+    pub kept : keep unforced (entered h ++ waitingSends h) ≡ keep unforced (accepted h)
+
+  pub none-yet : Held [] []
+  none-yet = record { words = refl; ordered = refl; handedAre = tt; oneEach = tt; counted = λ k. refl; kept = refl }
+
+  module _ (m : Made QueueCall) (h : List (Made QueueCall)) (b b′ : List ℕ) (i : Held h b) (f : Moves m h b′) where
+    -- what is dropped and the line are what was in the buffer and what enters
+    line-whole : map wordOf (drops c m h) ++ map wordOf (line c (buffered c h) m h) ≡ b ++ map wordOf (enters m h)
+    line-whole =
+        let n = findsFull c (buffered c h) m in
+        let l = buffered c h in
+        ap (λ (k : List ℕ). map wordOf (take n l) ++ k) (map-append wordOf (drop n l) (enters m h))
+        ∙ sym (append-assoc (map wordOf (take n l)) (map wordOf (drop n l)) (map wordOf (enters m h)))
+        ∙ ap (λ (k : List ℕ). k ++ map wordOf (enters m h)) (sym (map-append wordOf (take n l) (drop n l)) ∙ ap (map wordOf) (take-append-drop n l) ∙ sym (i .words))
+
+    ordered-next : gathered (leaves c) (m ∷ h) ++ b′ ≡ map wordOf (entered (m ∷ h))
+    ordered-next =
+        let g = gathered (leaves c) h in
+        let d = map wordOf (drops c m h) in
+        append-assoc g (d ++ handed m) b′
+        ∙ ap (λ (k : List ℕ). g ++ k) (append-assoc d (handed m) b′ ∙ ap (λ (k : List ℕ). d ++ k) (f .flow) ∙ line-whole)
+        ∙ sym (append-assoc g b (map wordOf (enters m h)))
+        ∙ ap (λ (k : List ℕ). k ++ map wordOf (enters m h)) (i .ordered)
+        ∙ sym (map-append wordOf (entered h) (enters m h))
+
+    kept-next : keep unforced (entered (m ∷ h) ++ waitingSends (m ∷ h)) ≡ keep unforced (accepted (m ∷ h))
+    kept-next =
+        let e = entered h in
+        ap (keep unforced) (append-assoc e (enters m h) (waitingSends (m ∷ h)))
+        ∙ keep-append unforced e (enters m h ++ waitingSends (m ∷ h))
+        ∙ ap (λ (k : List Sent). keep unforced e ++ k) (line-keeps (f .turn))
+        ∙ sym (keep-append unforced e (waitingSends h ++ accepts m h))
+        ∙ ap (keep unforced) (sym (append-assoc e (waitingSends h) (accepts m h)))
+        ∙ keep-append unforced (e ++ waitingSends h) (accepts m h)
+        ∙ ap (λ (k : List Sent). k ++ keep unforced (accepts m h)) (i .kept)
+        ∙ sym (keep-append unforced (accepted h) (accepts m h))
+
+    pub one-more : Held (m ∷ h) b′
+    one-more =
+        let p = map-parts wordOf (handed m) b′ (line c (buffered c h) m h) (f .flow) in
+        record {
+          words = p .1;
+          ordered = ordered-next;
+          handedAre = (p .0, i .handedAre);
+          oneEach = (f .one, i .oneEach);
+          counted = λ k. omega (arith, i .counted k, times-append k (entered h) (enters m h), times-append k (accepted h) (accepts m h), line-times k (f .turn));
+          kept = kept-next;
+        }
+
+  -- ---- the claims
+  pub all-placed : (h : List (Made QueueCall)) (b : List ℕ) → Held h b → (k : ℕ)
+      → times k (handedOut c h) + times k (dropped c h) + times k (buffered c h) + times k (waitingSends h) + times k (withdrawn h) ≡ acceptedOf k h
+  all-placed h b i k = omega (arith, entered-placed c k h, i .counted k, accepted-once k h)
+
+  pub in-call-order : (h : List (Made QueueCall)) (b : List ℕ) → Held h b → Ascending (keep unforced (entered h ++ waitingSends h))
+  in-call-order h b i = subst Ascending (sym (i .kept)) (ascending-keep unforced (accepted h) (accepted-ascends h))
