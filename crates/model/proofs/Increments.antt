@@ -1,45 +1,42 @@
 -- Demand 3 of a list of calls and of one call more, in plain facts: whatever the list, the task, the object, the word. Assumes nothing.
 use mathlib.Core.Path.{_≡_, refl, sym, ap, _∙_, subst}
 use mathlib.Core.Logic.{_≢_}
-use mathlib.Core.List.{List, [], _∷_, _++_, append-assoc, append-nil}
+use mathlib.Core.Bool.{Bool, cond}
+use mathlib.Core.List.{List, [], _∷_, _++_, map, append-assoc, append-nil, tail-eq-of-cons-eq}
 use mathlib.Core.Option.{Option, none, some}
-use Prim.Native.Nat.{ℕ, suc, _+_}
+use Prim.Native.Nat.{ℕ, suc, _+_, _≤_, _<_}
 use native.Mathlib.Omega.{arith}
+use lib.Dec.{eqb}
 use lib.IntN.{ℤ}
-use lib.ListN.{drop}
+use lib.ListN.{length, take, length-map}
 use Rattle.itron.specs.Codes.{Err, Code, ok, waiting, error}
-use Rattle.model.specs.Lists.{words}
+use Rattle.model.specs.Lists.{keep, anyOf, gathered}
 use Rattle.model.specs.State.{Vector, onSem, receiving, sending, Waiter, State, queueAt, semAt, waiter, no}
 use Rattle.model.specs.Answers.{Info, Released}
 use Rattle.model.specs.Waits.{Patience, senders, leave}
 use Rattle.model.specs.Acts.{Act, own, refer, setVector}
 use Rattle.model.specs.Semaphores.{SemaphoreCall, signal, acquire}
-use Rattle.model.specs.Queues.{QueueCall, send, receive}
+use Rattle.model.specs.Queues.{QueueCall, send, receive, forcedSend}
 use Rattle.model.specs.Calls.{Op, onSemaphore, onQueue, call}
 use Rattle.model.specs.History.{Event, History, Made, askedIf, joined, without}
 use Rattle.model.specs.SemaphoreClaims as Semaphores
+use Rattle.model.specs.Sends.{Sent, wordOf, shown, waitingSends, enters, entered, wordsOf, handed, fullIn, buffered, drops, leaves}
 use Rattle.model.specs.QueueClaims as Queues
 use Rattle.model.specs.Demand3.{Demand3}
-use Rattle.model.proofs.Lists.{eqb-same, eqb-no}
-
--- the words that a queue holds: those buffered, then those of its waiting senders
-abbrev pub held : State → ℕ → List ℕ
-held s q = queueAt s q .buffer ++ Queues.wordsIn (senders s q)
+use Rattle.model.proofs.Lists.{eqb-same, eqb-no, append-cancel, map-append, map-keep}
+use Rattle.model.proofs.Tests.{holds, fails, le-tells}
+use Rattle.model.proofs.Sends.{buffered-are, words-of, words-in}
 
 -- ---- no call yet: the queues are empty, the counts are those at the start, nobody waits
 module _ {s₀ s : State} (d : Demand3 s₀ [] s) where
-  pub first-words : (q : ℕ) → held s q ≡ []
-  first-words q = d .queues q .conserved
+  pub first-words : (q : ℕ) → queueAt s q .buffer ≡ []
+  first-words q = d .queues q .ordered
 
   pub first-count : (i : ℕ) → semAt s i .count ≡ semAt s₀ i .count
   first-count i = omega (arith, d .semaphores i)
 
   pub first-waits : s .waits ≡ []
   first-waits = d .waitersAre
-
-cancel : (l : List ℕ) {a b : List ℕ} → l ++ a ≡ l ++ b → a ≡ b
-cancel [] e = e
-cancel (x ∷ l) e = cancel l (ap (drop 1) e)
 
 -- ---- after the calls h, which left the state s, one call of task t, which left the state s′
 module _ (s₀ s s′ found : State) (h : History) (t : ℤ) (v : ℕ) (info : Info) where
@@ -50,69 +47,145 @@ module _ (s₀ s s′ found : State) (h : History) (t : ℤ) (v : ℕ) (info : I
   abbrev pub More : Op → Code → List Released → Type 0
   More op k rs = Demand3 s₀ h s × Demand3 s₀ (did op k rs ∷ h) s′
 
-  -- ---- the words of a queue
+  -- ---- the words of a queue: those of its buffer, before the call and after it
   abbrev seenQ : Option (Act QueueCall) → Code → List Released → Made QueueCall
   seenQ o k rs = record { caller = no t; asked = o; answer = did (onQueue t refer) k rs .answer }
 
-  moved : (op : Op) (k : Code) (rs : List Released) → More op k rs → (q : ℕ) (o : Option (Act QueueCall)) → Queues.askedOf q op ≡ o
-      → Queues.handed (seenQ o k rs) ++ held s′ q ≡ held s q ++ Queues.sent (seenQ o k rs)
-  moved op k rs m q o e = subst (λ (x : Option (Act QueueCall)). Queues.handed (seenQ x k rs) ++ held s′ q ≡ held s q ++ Queues.sent (seenQ x k rs)) e
-      (cancel given (sym (append-assoc given (Queues.handed y) (held s′ q)) ∙ m .1 .queues q .conserved ∙ ap (λ (l : List ℕ). l ++ Queues.sent y) (sym (m .0 .queues q .conserved)) ∙ append-assoc given (held s q) (Queues.sent y)))
-    where
-      y : Made QueueCall
-      y = seenQ (Queues.askedOf q op) k rs
+  module _ (q : ℕ) where
+    abbrev seen : List (Made QueueCall)
+    seen = Queues.byQueue q h
 
-      given : List ℕ
-      given = words Queues.handed (Queues.byQueue q h)
+    -- the capacity that the table gave it
+    abbrev pub room : ℕ
+    room = queueAt s₀ q .capacity
 
-  unmoved : (k : Code) (rs : List Released) (op : Op) → More op k rs → (q : ℕ) (o : Option (Act QueueCall)) → Queues.askedOf q op ≡ o
-      → Queues.handed (seenQ o ok rs) ≡ [] → Queues.sent (seenQ o ok rs) ≡ [] → held s′ q ≡ held s q
-  unmoved k rs op m q o e f g = go k (moved op k rs m q o e)
-    where
-      go : (c : Code) → Queues.handed (seenQ o c rs) ++ held s′ q ≡ held s q ++ Queues.sent (seenQ o c rs) → held s′ q ≡ held s q
-      go ok z = ap (λ (l : List ℕ). l ++ held s′ q) (sym f) ∙ z ∙ ap (λ (l : List ℕ). held s q ++ l) g ∙ append-nil (held s q)
-      go waiting z = z ∙ ap (λ (l : List ℕ). held s q ++ l) g ∙ append-nil (held s q)
-      go (error x) z = z ∙ append-nil (held s q)
+    abbrev before : List ℕ
+    before = queueAt s q .buffer
+
+    abbrev after : List ℕ
+    after = queueAt s′ q .buffer
+
+    abbrev Moved : Made QueueCall → Type 0
+    Moved y = map wordOf (drops room y seen) ++ (handed y ++ after) ≡ before ++ map wordOf (enters y seen)
+
+    moved : (op : Op) (k : Code) (rs : List Released) → More op k rs → (o : Option (Act QueueCall)) → Queues.askedOf q op ≡ o → Moved (seenQ o k rs)
+    moved op k rs m o e = subst (λ (x : Option (Act QueueCall)). Moved (seenQ x k rs)) e (append-cancel left (
+        ap (λ (l : List ℕ). left ++ l) (sym (append-assoc (map wordOf (drops room y seen)) (handed y) after))
+        ∙ sym (append-assoc left (leaves room y seen) after)
+        ∙ m .1 .queues q .ordered
+        ∙ map-append wordOf (entered seen) (enters y seen)
+        ∙ ap (λ (l : List ℕ). l ++ map wordOf (enters y seen)) (sym (m .0 .queues q .ordered))
+        ∙ append-assoc left before (map wordOf (enters y seen))
+        ))
+      where
+        y : Made QueueCall
+        y = seenQ (Queues.askedOf q op) k rs
+
+        left : List ℕ
+        left = gathered (leaves room) seen
+
+    unmoved : (k : Code) (rs : List Released) (op : Op) → More op k rs → (o : Option (Act QueueCall)) → Queues.askedOf q op ≡ o
+        → handed (seenQ o ok rs) ≡ [] → enters (seenQ o ok rs) seen ≡ [] → drops room (seenQ o ok rs) seen ≡ [] → after ≡ before
+    unmoved k rs op m o e f g d = go k (moved op k rs m o e)
+      where
+        go : (c : Code) → Moved (seenQ o c rs) → after ≡ before
+        go ok z = sym (λ i. map wordOf (d i) ++ (f i ++ after)) ∙ z ∙ ap (λ (l : List Sent). before ++ map wordOf l) g ∙ append-nil before
+        go waiting z = z ∙ append-nil before
+        go (error x) z = z ∙ append-nil before
+
+    -- a refused call, whatever it is
+    pub refused-words : (op : Op) (e : Err) (rs : List Released) → More op (error e) rs → queueAt s′ q .buffer ≡ queueAt s q .buffer
+    refused-words op e rs m = moved op (error e) rs m _ refl ∙ append-nil before
 
   module _ (n : ℤ) where
     mine : (a : Act QueueCall) → Queues.askedOf (no n) (onQueue n a) ≡ some a
     mine a = ap (λ b. askedIf b a) (eqb-same (no n))
 
-    -- a send that is done with nobody released, or that waits: its word comes last
-    pub word-stays : (p : Patience) (w : ℕ) → More (onQueue n (own (send p w))) ok [] → held s′ (no n) ≡ held s (no n) ++ (w ∷ [])
-    word-stays p w m = moved _ ok [] m (no n) _ (mine (own (send p w)))
+    -- a send that is done with nobody released: its word comes last; one that waits: no word moves
+    pub word-stays : (p : Patience) (w : ℕ) → More (onQueue n (own (send p w))) ok [] → queueAt s′ (no n) .buffer ≡ queueAt s (no n) .buffer ++ (w ∷ [])
+    word-stays p w m = moved (no n) _ ok [] m _ (mine (own (send p w)))
 
-    pub word-waits : (p : Patience) (w : ℕ) (rs : List Released) → More (onQueue n (own (send p w))) waiting rs → held s′ (no n) ≡ held s (no n) ++ (w ∷ [])
-    word-waits p w rs m = moved _ waiting rs m (no n) _ (mine (own (send p w)))
+    pub word-waits : (p : Patience) (w : ℕ) (rs : List Released) → More (onQueue n (own (send p w))) waiting rs → queueAt s′ (no n) .buffer ≡ queueAt s (no n) .buffer
+    word-waits p w rs m = moved (no n) _ waiting rs m _ (mine (own (send p w))) ∙ append-nil (queueAt s (no n) .buffer)
 
     -- a send that releases a receiver: what this one is shown with goes out at the front
-    pub word-passes : (p : Patience) (w : ℕ) (r : Released) → More (onQueue n (own (send p w))) ok (r ∷ []) → r .word ∷ held s′ (no n) ≡ held s (no n) ++ (w ∷ [])
-    word-passes p w r m = moved _ ok (r ∷ []) m (no n) _ (mine (own (send p w)))
+    pub word-passes : (p : Patience) (w : ℕ) (r : Released) → More (onQueue n (own (send p w))) ok (r ∷ []) → r .word ∷ queueAt s′ (no n) .buffer ≡ queueAt s (no n) .buffer ++ (w ∷ [])
+    word-passes p w r m = moved (no n) _ ok (r ∷ []) m _ (mine (own (send p w)))
 
-    -- a receive that is done: its word goes out at the front
-    pub word-taken : (p : Patience) (rs : List Released) → More (onQueue n (own (receive p))) ok rs → v ∷ held s′ (no n) ≡ held s (no n)
-    word-taken p rs m = moved _ ok rs m (no n) _ (mine (own (receive p))) ∙ append-nil (held s (no n))
+    -- a receive that is done: its word goes out at the front; of a sender that it releases the word comes last
+    freed-words : (rs : List Released) → Demand3 s₀ h s → map wordOf (keep (shown rs) (waitingSends (seen (no n)))) ≡ Queues.wordsIn (keep (λ (e : Waiter). anyOf (λ (r : Released). eqb (r .task) (e .task)) rs) (senders s (no n)))
+    freed-words rs d =
+        let is : Queues.Sender → Bool = λ x. anyOf (λ (r : Released). eqb (r .task) (x .task)) rs in
+        words-in (keep (shown rs) (waitingSends (seen (no n))))
+        ∙ ap (map (λ (x : Queues.Sender). x .word)) (map-keep Queues.senderIn is (waitingSends (seen (no n))) ∙ ap (keep is) (sym (d .queues (no n) .sendersAre)) ∙ sym (map-keep Queues.senderOf is (senders s (no n))))
+        ∙ sym (words-of (keep (λ (e : Waiter). is (Queues.senderOf e)) (senders s (no n))))
+
+    pub word-taken : (p : Patience) (rs : List Released) → More (onQueue n (own (receive p))) ok rs
+        → v ∷ queueAt s′ (no n) .buffer ≡ queueAt s (no n) .buffer ++ Queues.wordsIn (keep (λ (e : Waiter). anyOf (λ (r : Released). eqb (r .task) (e .task)) rs) (senders s (no n)))
+    word-taken p rs m = moved (no n) _ ok rs m _ (mine (own (receive p))) ∙ ap (λ (l : List ℕ). queueAt s (no n) .buffer ++ l) (freed-words rs (m .0))
+
+    -- a forced send that is done: with room its word comes last; into a full buffer it drops the oldest, which there is
+    buffered-is : Demand3 s₀ h s → queueAt s (no n) .buffer ≡ map wordOf (buffered (room (no n)) (seen (no n)))
+    buffered-is d = buffered-are (room (no n)) (seen (no n)) (queueAt s (no n) .buffer) (d .queues (no n) .handedAre) (d .queues (no n) .ordered)
+
+    as-long : Demand3 s₀ h s → length (queueAt s (no n) .buffer) ≡ length (buffered (room (no n)) (seen (no n)))
+    as-long d = ap length (buffered-is d) ∙ length-map (buffered (room (no n)) (seen (no n))) wordOf
+
+    finds-room : (w : ℕ) → Demand3 s₀ h s → length (queueAt s (no n) .buffer) < queueAt s₀ (no n) .capacity → fullIn (room (no n)) (buffered (room (no n)) (seen (no n))) (forcedSend w) ≡ 0
+    finds-room w d g = ap (λ b. cond {A = ℕ} b 1 0) (fails (le-tells (room (no n)) (length (buffered (room (no n)) (seen (no n))))) (λ z. omega (arith, g, z, as-long d)))
+
+    finds-full : (w : ℕ) → Demand3 s₀ h s → queueAt s₀ (no n) .capacity ≤ length (queueAt s (no n) .buffer) → fullIn (room (no n)) (buffered (room (no n)) (seen (no n))) (forcedSend w) ≡ 1
+    finds-full w d g = ap (λ b. cond {A = ℕ} b 1 0) (holds (le-tells (room (no n)) (length (buffered (room (no n)) (seen (no n))))) (omega (arith, g, as-long d)))
+
+    with-room : (w : ℕ) (rs : List Released) → length (queueAt s (no n) .buffer) < queueAt s₀ (no n) .capacity → More (onQueue n (own (forcedSend w))) ok rs
+        → wordsOf rs ++ queueAt s′ (no n) .buffer ≡ queueAt s (no n) .buffer ++ (w ∷ [])
+    with-room w rs g m =
+        ap (λ (i : ℕ). map wordOf (take i (buffered (room (no n)) (seen (no n)))) ++ (wordsOf rs ++ queueAt s′ (no n) .buffer)) (sym (finds-room w (m .0) g))
+        ∙ moved (no n) _ ok rs m _ (mine (own (forcedSend w)))
+
+    pub force-stays : (w : ℕ) → length (queueAt s (no n) .buffer) < queueAt s₀ (no n) .capacity → More (onQueue n (own (forcedSend w))) ok [] → queueAt s′ (no n) .buffer ≡ queueAt s (no n) .buffer ++ (w ∷ [])
+    force-stays w g m = with-room w [] g m
+
+    pub force-passes : (w : ℕ) (r : Released) → length (queueAt s (no n) .buffer) < queueAt s₀ (no n) .capacity → More (onQueue n (own (forcedSend w))) ok (r ∷ [])
+        → r .word ∷ queueAt s′ (no n) .buffer ≡ queueAt s (no n) .buffer ++ (w ∷ [])
+    force-passes w r g m = with-room w (r ∷ []) g m
+
+    pub force-drops : (w : ℕ) → queueAt s₀ (no n) .capacity ≤ length (queueAt s (no n) .buffer) → More (onQueue n (own (forcedSend w))) ok []
+        → (z : ℕ) × ((l : List ℕ) × ((queueAt s (no n) .buffer ≡ z ∷ l) × (queueAt s′ (no n) .buffer ≡ l ++ (w ∷ []))))
+    force-drops w g m = one (buffered c (seen (no n))) is-oldest (buffered-is (m .0))
+        (ap (λ (i : ℕ). map wordOf (take i (buffered c (seen (no n)))) ++ queueAt s′ (no n) .buffer) (sym full) ∙ moved (no n) _ ok [] m _ (mine (own (forcedSend w))))
+      where
+        c : ℕ
+        c = room (no n)
+
+        full : fullIn c (buffered c (seen (no n))) (forcedSend w) ≡ 1
+        full = finds-full w (m .0) g
+
+        is-oldest : length (take 1 (buffered c (seen (no n)))) ≡ 1
+        is-oldest = subst (λ (i : ℕ). length (take i (buffered c (seen (no n)))) ≡ i) full
+            (subst (λ (o : Option (Act QueueCall)). Queues.DropsOne c (seenQ o ok []) (seen (no n))) (mine (own (forcedSend w))) (m .1 .queues (no n) .oneEach .0))
+
+        one : (l : List Sent) → length (take 1 l) ≡ 1 → queueAt s (no n) .buffer ≡ map wordOf l → map wordOf (take 1 l) ++ queueAt s′ (no n) .buffer ≡ queueAt s (no n) .buffer ++ (w ∷ [])
+            → (z : ℕ) × ((k : List ℕ) × ((queueAt s (no n) .buffer ≡ z ∷ k) × (queueAt s′ (no n) .buffer ≡ k ++ (w ∷ []))))
+        one [] i f j = absurd (omega (arith, i))
+        one (x ∷ l) i f j = (x .word, (map wordOf l, (f, tail-eq-of-cons-eq (j ∙ ap (λ (k : List ℕ). k ++ (w ∷ [])) f))))
 
     -- a receive that waits, a refer, a set-vector: no word moves
-    pub receive-waits : (p : Patience) (rs : List Released) → More (onQueue n (own (receive p))) waiting rs → held s′ (no n) ≡ held s (no n)
-    receive-waits p rs m = moved _ waiting rs m (no n) _ (mine (own (receive p))) ∙ append-nil (held s (no n))
+    pub receive-waits : (p : Patience) (rs : List Released) → More (onQueue n (own (receive p))) waiting rs → queueAt s′ (no n) .buffer ≡ queueAt s (no n) .buffer
+    receive-waits p rs m = moved (no n) _ waiting rs m _ (mine (own (receive p))) ∙ append-nil (queueAt s (no n) .buffer)
 
-    pub refer-moves-none : (k : Code) (rs : List Released) → More (onQueue n refer) k rs → held s′ (no n) ≡ held s (no n)
-    refer-moves-none k rs m = unmoved k rs _ m (no n) _ (mine refer) refl refl
+    pub refer-moves-none : (k : Code) (rs : List Released) → More (onQueue n refer) k rs → queueAt s′ (no n) .buffer ≡ queueAt s (no n) .buffer
+    refer-moves-none k rs m = unmoved (no n) k rs _ m _ (mine refer) refl refl refl
 
-    pub set-moves-none : (x : Vector) (k : Code) (rs : List Released) → More (onQueue n (setVector x)) k rs → held s′ (no n) ≡ held s (no n)
-    set-moves-none x k rs m = unmoved k rs _ m (no n) _ (mine (setVector x)) refl refl
+    pub set-moves-none : (x : Vector) (k : Code) (rs : List Released) → More (onQueue n (setVector x)) k rs → queueAt s′ (no n) .buffer ≡ queueAt s (no n) .buffer
+    set-moves-none x k rs m = unmoved (no n) k rs _ m _ (mine (setVector x)) refl refl refl
 
     -- a call on another queue, or on a semaphore
-    pub another-queue : (a : Act QueueCall) (k : Code) (rs : List Released) → More (onQueue n a) k rs → (q : ℕ) → q ≢ no n → held s′ q ≡ held s q
-    another-queue a k rs m q z = unmoved k rs _ m q none (ap (λ b. askedIf b a) (eqb-no q (no n) z)) refl refl
+    pub another-queue : (a : Act QueueCall) (k : Code) (rs : List Released) → More (onQueue n a) k rs → (q : ℕ) → q ≢ no n → queueAt s′ q .buffer ≡ queueAt s q .buffer
+    another-queue a k rs m q z = unmoved q k rs _ m none (ap (λ b. askedIf b a) (eqb-no q (no n) z)) refl refl refl
 
-    pub no-queue : (a : Act SemaphoreCall) (k : Code) (rs : List Released) → More (onSemaphore n a) k rs → (q : ℕ) → held s′ q ≡ held s q
-    no-queue a k rs m q = unmoved k rs _ m q none refl refl refl
-
-  -- a refused call, whatever it is
-  pub refused-words : (op : Op) (e : Err) (rs : List Released) → More op (error e) rs → (q : ℕ) → held s′ q ≡ held s q
-  refused-words op e rs m q = moved op (error e) rs m q _ refl ∙ append-nil (held s q)
+    pub no-queue : (a : Act SemaphoreCall) (k : Code) (rs : List Released) → More (onSemaphore n a) k rs → (q : ℕ) → queueAt s′ q .buffer ≡ queueAt s q .buffer
+    no-queue a k rs m q = unmoved q k rs _ m none refl refl refl refl
 
   -- ---- the count of a semaphore
   abbrev seenS : Option (Act SemaphoreCall) → Code → List Released → Made SemaphoreCall

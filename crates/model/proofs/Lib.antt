@@ -16,6 +16,7 @@ pub mod SemaphoreClaims
 pub mod Sends
 pub mod Placing
 pub mod QueueClaims
+pub mod CallOrder
 pub mod Releases
 pub mod Demand3
 pub mod Turns

@@ -159,7 +159,11 @@ module _ {A : Type 0} where
       go true e ih = absurd (omega (arith, e, keep-length (λ y. not (p y)) l))
       go false e ih = ih (omega (arith, e))
 
--- ---- map
+-- ---- append and map
+pub append-cancel : {A : Type 0} (l : List A) {a b : List A} → l ++ a ≡ l ++ b → a ≡ b
+append-cancel [] e = e
+append-cancel (x ∷ l) e = append-cancel l (tail-eq-of-cons-eq e)
+
 pub map-append : {A B : Type 0} (f : A → B) (l m : List A) → map f (l ++ m) ≡ map f l ++ map f m
 map-append f [] m = refl
 map-append f (x ∷ l) m = ap (λ k. f x ∷ k) (map-append f l m)

@@ -32,7 +32,7 @@ use Rattle.model.proofs.Fits.{queues-put, buffer-fits}
 use Rattle.model.proofs.Rooms.{roomOf, is-at, Calls, Passed, passed, stranger}
 use Rattle.model.proofs.Semaphores as SemaphoreRoom
 use Rattle.model.proofs.Queues.{bare, laws, cover, fine-here, qview-eq, qviewOf, QueueOk, via}
-use Rattle.model.proofs.Sends.{Moves, Held, none-yet, one-more, all-placed, in-call-order}
+use Rattle.model.proofs.Sends.{Moves, Held, none-yet, one-more, in-order-held, all-placed, in-call-order}
 use Rattle.model.proofs.Placing.{refused-moves, elsewhere-moves, act-moves}
 use Rattle.model.proofs.Cover.{Whose, mine, foreign, sees, keeps-records, entries-stay, all-stay, vector-law, Endings, ends}
 use Rattle.model.proofs.Steps.{distinct-law, fixed-law, waiters-are}
@@ -416,7 +416,7 @@ pub carried : (s₀ : State) → JustClosed s₀ → (cs : List Call) (q : ℕ) 
 carried s₀ j cs q =
     let i = held s₀ j cs q in
     record {
-      ordered = i .ordered;
+      ordered = in-order-held (queueAt s₀ q .capacity) (byQueue q (history s₀ cs)) (queueAt (after s₀ cs) q .buffer) i;
       handedAre = i .handedAre;
       placed = all-placed (queueAt s₀ q .capacity) (byQueue q (history s₀ cs)) (queueAt (after s₀ cs) q .buffer) i;
       oneEach = i .oneEach;

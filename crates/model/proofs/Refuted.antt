@@ -4,7 +4,7 @@ use mathlib.Core.Logic.{inl}
 use mathlib.Core.Bool.{Bool, true, false}
 use mathlib.Core.List.{List, [], _∷_, _++_, map}
 use mathlib.Core.Option.{some}
-use Prim.Native.Nat.{ℕ, suc}
+use Prim.Native.Nat.{ℕ, suc, _<_}
 use native.Mathlib.Omega.{arith}
 use lib.Dec.{eqb}
 use lib.IntN.{pos, negsuc}
@@ -12,29 +12,30 @@ use lib.ListN.{length, getD}
 use Rattle.itron.specs.Limits.{minUnit}
 use Rattle.access.specs.Patterns.{admitted}
 use Rattle.itron.specs.Codes.{Code, ok, waiting, error, eOacv}
-use Rattle.model.specs.Lists.{words}
+use Rattle.model.specs.Lists.{gathered}
 use Rattle.model.specs.State.{Vector, onSem, receiving, sending, Place, Waiter, State, stateWith, setWaits, setSems, setQueues, place, sideNumber, waiter}
 use Rattle.model.specs.Answers.{Released, say}
 use Rattle.model.specs.Waits.{polling, forever}
 use Rattle.model.specs.Acts.{own, setVector}
 use Rattle.model.specs.Semaphores.{SemaphoreCall, signal, acquire}
-use Rattle.model.specs.Queues.{QueueCall, send, receive}
+use Rattle.model.specs.Queues.{QueueCall, send, receive, forcedSend}
 use Rattle.model.specs.Calls.{Op, onSemaphore, onQueue, call}
 use Rattle.model.specs.History.{Event, History, Made, askedIf}
 use Rattle.model.specs.SemaphoreClaims.{Counted}
-use Rattle.model.specs.QueueClaims.{sent, handed, Sender}
+use Rattle.model.specs.Sends.{wordOf, entered, leaves}
+use Rattle.model.specs.QueueClaims.{Sender}
 use Rattle.model.specs.Releases.{WaitsAt}
 use Rattle.model.specs.Demand3.{Demand3}
 use Rattle.model.proofs.Lists.{no-both, eqb-same}
 
--- ---- tasks 1 and 3 are of domain 1, task 2 of domain 2; semaphore 1 and queue 1 are for domain 1 only
+-- ---- tasks 1, 3 and 4 are of domain 1, task 2 of domain 2; semaphore 1 and queue 1 are for domain 1 only
 abbrev for : ℕ → Vector
 for p = record { normal1 = p; normal2 = p; management = p; reference = p }
 
 abbrev table : List Waiter → ℕ → List ℕ → State
 table ws k b =
     setQueues
-    (setSems (setWaits (stateWith (record { closed = true; count = 2; unit = minUnit; domains = pos 1 ∷ pos 2 ∷ pos 1 ∷ []; regions = [] })) ws) (record { domain = negsuc 0; attribute = 0; max = 9; count = k; vector = for 1 } ∷ []))
+    (setSems (setWaits (stateWith (record { closed = true; count = 2; unit = minUnit; domains = pos 1 ∷ pos 2 ∷ pos 1 ∷ pos 1 ∷ []; regions = [] })) ws) (record { domain = negsuc 0; attribute = 0; max = 9; count = k; vector = for 1 } ∷ []))
     (record { domain = negsuc 0; attribute = 0; capacity = 2; buffer = b; vector = for 1 } ∷ [])
 
 abbrev start : State
@@ -55,23 +56,23 @@ Claims h b = Demand3 start h (table [] 0 b)
 
 -- ---- "No reading is lost, doubled, swapped or smuggled in"
 pub lost : Claims (sends 1 700 ∷ []) [] → ⊥
-lost d = let e : _≡_ {A = ℕ} 0 1 = ap length (d .queues 1 .conserved) in omega arith
+lost d = let e : _≡_ {A = ℕ} 0 1 = ap length (d .queues 1 .ordered) in omega arith
 
 pub doubled : Claims (sends 1 700 ∷ []) (700 ∷ 700 ∷ []) → ⊥
-doubled d = let e : _≡_ {A = ℕ} 2 1 = ap length (d .queues 1 .conserved) in omega arith
+doubled d = let e : _≡_ {A = ℕ} 2 1 = ap length (d .queues 1 .ordered) in omega arith
 
 pub swapped : Claims (sends 1 701 ∷ sends 1 700 ∷ []) (701 ∷ 700 ∷ []) → ⊥
-swapped d = let e : _≡_ {A = ℕ} 701 700 = ap (λ (l : List ℕ). getD l 0 0) (d .queues 1 .conserved) in omega arith
+swapped d = let e : _≡_ {A = ℕ} 701 700 = ap (λ (l : List ℕ). getD l 0 0) (d .queues 1 .ordered) in omega arith
 
 pub smuggled : Claims [] (5 ∷ []) → ⊥
-smuggled d = let e : _≡_ {A = ℕ} 1 0 = ap length (d .queues 1 .conserved) in omega arith
+smuggled d = let e : _≡_ {A = ℕ} 1 0 = ap length (d .queues 1 .ordered) in omega arith
 
 pub handed-and-kept : Claims (did 3 (onQueue (pos 1) (own (receive polling))) ok 700 [] ∷ sends 1 700 ∷ []) (700 ∷ []) → ⊥
-handed-and-kept d = let e : _≡_ {A = ℕ} 2 1 = ap length (d .queues 1 .conserved) in omega arith
+handed-and-kept d = let e : _≡_ {A = ℕ} 2 1 = ap length (d .queues 1 .ordered) in omega arith
 
 -- a released receiver gets the word that was sent
 pub other-word : Claims (did 1 (onQueue (pos 1) (own (send polling 700))) ok 0 (released 3 0) ∷ did 3 (onQueue (pos 1) (own (receive forever))) waiting 0 [] ∷ []) [] → ⊥
-other-word d = let e : _≡_ {A = ℕ} 0 700 = ap (λ (l : List ℕ). getD l 0 0) (d .queues 1 .conserved) in omega arith
+other-word d = let e : _≡_ {A = ℕ} 0 700 = ap (λ (l : List ℕ). getD l 0 0) (d .queues 1 .ordered) in omega arith
 
 -- ---- "admitted when it called": who sent, and who took
 pub denied-sender : Claims (sends 2 700 ∷ []) (700 ∷ []) → ⊥
@@ -150,10 +151,78 @@ pub senders-swapped : Demand3 start two-wait (table (waiter 3 sending 1 701 ∷ 
 senders-swapped d = let e : _≡_ {A = ℕ} 3 1 = ap (λ (l : List Sender). getD (map (λ (x : Sender). x .task) l) 0 0) (d .queues 1 .sendersAre) in omega arith
 
 pub words-swapped : Demand3 start two-wait (table (waiter 1 sending 1 701 ∷ waiter 3 sending 1 700 ∷ []) 0 []) → ⊥
-words-swapped d = let e : _≡_ {A = ℕ} 701 700 = ap (λ (l : List ℕ). getD l 0 0) (d .queues 1 .conserved) in omega arith
+words-swapped d = let e : _≡_ {A = ℕ} 701 700 = ap (λ (l : List Sender). getD (map (λ (x : Sender). x .word) l) 0 0) (d .queues 1 .sendersAre) in omega arith
 
 pub second-sender-lost : Demand3 start two-wait (table (waiter 1 sending 1 700 ∷ []) 0 []) → ⊥
-second-sender-lost d = let e : _≡_ {A = ℕ} 1 2 = ap length (d .queues 1 .conserved) in omega arith
+second-sender-lost d = let e : _≡_ {A = ℕ} 1 2 = ap length (d .queues 1 .sendersAre) in omega arith
+
+-- ---- where every word is (request T-05); queue 1 has room for two words
+abbrev forces : ℕ → ℕ → Event
+forces t w = did t (onQueue (pos 1) (own (forcedSend w))) ok 0 []
+
+abbrev full : History
+full = sends 1 701 ∷ sends 1 700 ∷ []
+
+-- "into a full buffer it drops the oldest word and appends its own": not the newest, not both, not none, and none where there is room
+pub newest-dropped : Claims (forces 1 702 ∷ full) (700 ∷ 702 ∷ []) → ⊥
+newest-dropped d = let e : _≡_ {A = ℕ} 700 701 = ap (λ (l : List ℕ). getD l 1 0) (d .queues 1 .ordered) in omega arith
+
+pub both-dropped : Claims (forces 1 702 ∷ full) (702 ∷ []) → ⊥
+both-dropped d = let e : _≡_ {A = ℕ} 2 3 = ap length (d .queues 1 .ordered) in omega arith
+
+pub none-dropped : Claims (forces 1 702 ∷ full) (700 ∷ 701 ∷ 702 ∷ []) → ⊥
+none-dropped d = let e : _≡_ {A = ℕ} 4 3 = ap length (d .queues 1 .ordered) in omega arith
+
+pub dropped-with-room : Claims (forces 1 701 ∷ sends 1 700 ∷ []) (701 ∷ []) → ⊥
+dropped-with-room d = let e : _≡_ {A = ℕ} 1 2 = ap length (d .queues 1 .ordered) in omega arith
+
+pub own-word-dropped : Claims (forces 1 702 ∷ full) (700 ∷ 701 ∷ []) → ⊥
+own-word-dropped d = let e : _≡_ {A = ℕ} 700 701 = ap (λ (l : List ℕ). getD l 1 0) (d .queues 1 .ordered) in omega arith
+
+-- a dropped word is handed out no more
+pub dropped-and-handed : Claims (did 3 (onQueue (pos 1) (own (receive polling))) ok 700 [] ∷ forces 1 702 ∷ full) (701 ∷ 702 ∷ []) → ⊥
+dropped-and-handed d = let e : _≡_ {A = ℕ} 700 701 = ap (λ (l : List ℕ). getD l 0 0) (d .queues 1 .handedAre .0) in omega arith
+
+-- a send that is not forced drops nothing
+pub dropped-unforced : Claims (sends 1 702 ∷ full) (701 ∷ 702 ∷ []) → ⊥
+dropped-unforced d = let e : _≡_ {A = ℕ} 701 700 = ap (λ (l : List ℕ). getD l 0 0) (d .queues 1 .ordered) in omega arith
+
+-- on capacity 0 there is nothing to drop
+abbrev small : State
+small = setQueues start (record { domain = negsuc 0; attribute = 0; capacity = 0; buffer = []; vector = for 1 } ∷ [])
+
+pub forced-on-0 : Demand3 small (forces 1 700 ∷ []) small → ⊥
+forced-on-0 d = let e : _≡_ {A = ℕ} 0 1 = d .queues 1 .oneEach .0 in omega arith
+
+-- a denied force
+pub denied-force : Claims (forces 2 700 ∷ []) (700 ∷ []) → ⊥
+unfolding admitted
+denied-force d = d .queues 1 .sendersAllowed .0 .0
+
+pub denied-taker-of-force : Claims (did 1 (onQueue (pos 1) (own (forcedSend 700))) ok 0 (released 2 700) ∷ did 2 (onQueue (pos 1) (own (receive forever))) waiting 0 [] ∷ []) [] → ⊥
+unfolding admitted
+denied-taker-of-force d = d .queues 1 .takersAllowed .0 .0 .1
+
+-- "Sends not forced still enter or pass in call order": the words are equal, only the calls tell that the second sender went before the first
+pub overtaken : Demand3 start
+    (did 4 (onQueue (pos 1) (own (receive polling))) ok 700 (released 3 0) ∷ did 3 (onQueue (pos 1) (own (send forever 700))) waiting 0 [] ∷ waits ∷ sends 4 700 ∷ sends 4 700 ∷ [])
+    (table (waiter 1 sending 1 700 ∷ []) 0 (700 ∷ 700 ∷ [])) → ⊥
+overtaken d = let e : 3 < 2 = d .queues 1 .inCallOrder .1 .1 .0 .0 in omega arith
+
+-- one that enters while another waits
+pub waiter-passed : Demand3 start (sends 3 701 ∷ waits ∷ []) (table (waiter 1 sending 1 700 ∷ []) 0 (701 ∷ [])) → ⊥
+waiter-passed d = let e : 1 < 0 = d .queues 1 .inCallOrder .0 .0 in omega arith
+
+-- "in exactly one place": buffered and with its sender; and, once a set-vector has released the sender, nowhere
+pub in-two-places : Demand3 start (waits ∷ []) (table (waiter 1 sending 1 700 ∷ []) 0 (700 ∷ [])) → ⊥
+in-two-places d = let e : _≡_ {A = ℕ} 1 0 = ap length (d .queues 1 .ordered) in omega arith
+
+pub in-no-place : Claims (did 4 (onQueue (pos 1) (setVector (for 1))) ok 0 (released 1 0) ∷ waits ∷ []) [] → ⊥
+in-no-place d = let e : _≡_ {A = ℕ} 0 1 = d .queues 1 .placed 0 in omega arith
+
+-- a word handed out before it was sent
+pub handed-before : Claims (sends 1 700 ∷ did 3 (onQueue (pos 1) (own (receive polling))) ok 700 [] ∷ []) [] → ⊥
+handed-before d = let e : _≡_ {A = ℕ} 1 0 = ap length (d .queues 1 .handedAre .1 .0) in omega arith
 
 -- ---- all who wait, at a semaphore and to receive too: forgotten, at another place, in another order, with nobody having called
 abbrev acquires : ℕ → Event
@@ -227,12 +296,12 @@ abbrev empty : State
 empty = stateWith (record { closed = true; count = 2; unit = minUnit; domains = pos 1 ∷ []; regions = [] })
 
 pub lost-anywhere : (q : ℕ) → Demand3 empty (did 1 (onQueue (pos (suc q)) (own (send polling 700))) ok 0 [] ∷ []) empty → ⊥
-lost-anywhere q d = go (eqb (suc q) (suc q)) (eqb-same (suc q)) (d .queues (suc q) .conserved)
+lost-anywhere q d = go (eqb (suc q) (suc q)) (eqb-same (suc q)) (d .queues (suc q) .ordered)
   where
     seen : Bool → List (Made QueueCall)
     seen b = record { caller = 1; asked = askedIf b (own (send polling 700)); answer = say ok 0 [] } ∷ []
 
-    go : (b : Bool) → b ≡ true → words handed (seen b) ++ ([] ++ []) ≡ words sent (seen b) → ⊥
+    go : (b : Bool) → b ≡ true → gathered (leaves 0) (seen b) ++ [] ≡ map wordOf (entered (seen b)) → ⊥
     go true h c = let e : _≡_ {A = ℕ} 0 1 = ap length c in omega arith
     go false h c = no-both h refl
 

@@ -8,14 +8,15 @@ use native.Mathlib.Omega.{arith}
 use lib.Dec.{eqb}
 use lib.ListN.{length, take, drop, length-append, take-append-drop}
 use Rattle.itron.specs.Codes.{Code, ok, waiting, error}
-use Rattle.model.specs.Lists.{All, keep, consIf, Each, gathered}
+use Rattle.model.specs.Lists.{All, keep, consIf, words, Each, gathered}
 use Rattle.model.specs.Answers.{whenAccepted}
 use Rattle.model.specs.Acts.{Act, own, refer, setVector}
 use Rattle.model.specs.Queues.{QueueCall, send, receive, forcedSend}
 use Rattle.model.specs.History.{Made}
 use Rattle.model.specs.Sends.{Sent, sendOf, wordOf, unforced, times, Ascending, accepts, acceptedOf, waitingSends, withdrawn, enters, entered, handed, findsFull, line, buffered, drops, dropped, hands, handedOut, leaves}
-use Rattle.model.specs.QueueClaims.{HandsFirst, DropsOne}
-use Rattle.model.proofs.Lists.{eq-of, ne-of, eqb-same, eqb-no, keep-append, map-append, map-parts, all-keep}
+use Rattle.model.specs.State.{Waiter}
+use Rattle.model.specs.QueueClaims.{Sender, senderOf, senderIn, wordsIn, HandsFirst, DropsOne}
+use Rattle.model.proofs.Lists.{eq-of, ne-of, eqb-same, eqb-no, keep-append, append-cancel, map-append, map-parts, all-keep}
 
 -- ---- how many are of one call
 abbrev ofCall : ℕ → Sent → Bool
@@ -26,6 +27,15 @@ times-append k l m = ap length (keep-append (ofCall k) l m) ∙ length-append (k
 
 times-split : (k n : ℕ) (l : List Sent) → times k (take n l) + times k (drop n l) ≡ times k l
 times-split k n l = sym (times-append k (take n l) (drop n l)) ∙ ap (times k) (take-append-drop n l)
+
+-- ---- the words of waiting senders, as the state and as their sends show them
+pub words-of : (l : List Waiter) → wordsIn l ≡ map (λ (y : Sender). y .word) (map senderOf l)
+words-of [] = refl
+words-of (e ∷ l) = ap (λ (m : List ℕ). e .word ∷ m) (words-of l)
+
+pub words-in : (l : List Sent) → map wordOf l ≡ map (λ (y : Sender). y .word) (map senderIn l)
+words-in [] = refl
+words-in (x ∷ l) = ap (λ (m : List ℕ). x .word ∷ m) (words-in l)
 
 -- ---- what entered is handed out, dropped or in the buffer
 module _ (c : ℕ) where
@@ -39,21 +49,63 @@ module _ (c : ℕ) where
     times-append k (entered h) (enters m h),
     times-split k (length (handed m)) (line c (buffered c h) m h),
     times-append k (drop (findsFull c (buffered c h) m) (buffered c h)) (enters m h),
-    times-split k (findsFull c (buffered c h) m) (buffered c h)
+    times-split k (findsFull c (buffered c h) m) (buffered c h),
   )
+
+  -- ---- where each answer hands out the words at the line's front
+  -- the words that left, then those of the sends in the buffer, are those that entered or passed
+  pub in-order : (h : List (Made QueueCall)) → Each (HandsFirst c) h → gathered (leaves c) h ++ map wordOf (buffered c h) ≡ map wordOf (entered h)
+  in-order [] f = refl
+  in-order (m ∷ h) f =
+      append-assoc g (d ++ handed m) (map wordOf (drop n l))
+      ∙ ap (λ (k : List ℕ). g ++ k)
+      (append-assoc d (handed m) (map wordOf (drop n l)) ∙ ap (λ (k : List ℕ). d ++ k) (ap (λ (k : List ℕ). k ++ map wordOf (drop n l)) (f .0) ∙ map-split n l) ∙ ap (λ (k : List ℕ). d ++ k) (map-append wordOf (drop j b) (enters m h)) ∙ sym (append-assoc d (map wordOf (drop j b)) (map wordOf (enters m h)))
+      ∙ ap (λ (k : List ℕ). k ++ map wordOf (enters m h)) (map-split j b))
+      ∙ sym (append-assoc g (map wordOf b) (map wordOf (enters m h)))
+      ∙ ap (λ (k : List ℕ). k ++ map wordOf (enters m h)) (in-order h (f .1))
+      ∙ sym (map-append wordOf (entered h) (enters m h))
+    where
+      b : List Sent
+      b = buffered c h
+
+      j : ℕ
+      j = findsFull c b m
+
+      l : List Sent
+      l = line c b m h
+
+      n : ℕ
+      n = length (handed m)
+
+      g : List ℕ
+      g = gathered (leaves c) h
+
+      d : List ℕ
+      d = map wordOf (take j b)
+
+      map-split : (i : ℕ) (k : List Sent) → map wordOf (take i k) ++ map wordOf (drop i k) ≡ map wordOf k
+      map-split i k = sym (map-append wordOf (take i k) (drop i k)) ∙ ap (map wordOf) (take-append-drop i k)
+
+  -- the words of the sends handed out are those that the answers hand out, those of the sends in the buffer are the buffer's
+  pub handed-are : (h : List (Made QueueCall)) → Each (HandsFirst c) h → words handed h ≡ map wordOf (handedOut c h)
+  handed-are [] f = refl
+  handed-are (m ∷ h) f = (λ i. handed-are h (f .1) i ++ f .0 i) ∙ sym (map-append wordOf (handedOut c h) (hands c m h))
+
+  pub buffered-are : (h : List (Made QueueCall)) (b : List ℕ) → Each (HandsFirst c) h → gathered (leaves c) h ++ b ≡ map wordOf (entered h) → b ≡ map wordOf (buffered c h)
+  buffered-are h b f e = append-cancel (gathered (leaves c) h) (e ∙ sym (in-order h f))
 
 -- ---- the accepted sends, in call order
 abbrev pub accepted : List (Made QueueCall) → List Sent
 accepted h = gathered accepts h
 
 -- a call's send is of that call, and there is one at most
-abbrev Of : ℕ → List Sent → Type 0
+abbrev pub Of : ℕ → List Sent → Type 0
 Of k l = All (λ (x : Sent). x .call ≡ k) l × (length l ≤ 1)
 
 none-of : (k : ℕ) → Of k []
 none-of k = (tt, omega arith)
 
-send-of : (m : Made QueueCall) (h : List (Made QueueCall)) → Of (length h) (sendOf m h)
+pub send-of : (m : Made QueueCall) (h : List (Made QueueCall)) → Of (length h) (sendOf m h)
 send-of m h = go (m .asked)
   where
     by : (a : Act QueueCall) → Of (length h) (sendOf (record { caller = m .caller; asked = some a; answer = m .answer }) h)
@@ -89,11 +141,11 @@ times-newer k [] f = refl
 times-newer k (x ∷ l) f = ap (λ b. length (consIf b x (keep (ofCall k) l))) (eqb-no k (x .call) (λ e. omega (arith, e, f .0))) ∙ times-newer k l (f .1)
 
 -- ascending lists
-all-append : (P : Sent → Type 0) (l m : List Sent) → All P l → All P m → All P (l ++ m)
+pub all-append : (P : Sent → Type 0) (l m : List Sent) → All P l → All P m → All P (l ++ m)
 all-append P [] m f g = g
 all-append P (x ∷ l) m f g = (f .0, all-append P l m (f .1) g)
 
-all-weaker : (P Q : Sent → Type 0) → ((x : Sent) → P x → Q x) → (l : List Sent) → All P l → All Q l
+pub all-weaker : (P Q : Sent → Type 0) → ((x : Sent) → P x → Q x) → (l : List Sent) → All P l → All Q l
 all-weaker P Q g [] f = tt
 all-weaker P Q g (x ∷ l) f = (g x (f .0), all-weaker P Q g l (f .1))
 
@@ -170,35 +222,15 @@ module _ (c : ℕ) where
   -- ---- what holds after the calls h, which left the buffer b
   pub record Held (h : List (Made QueueCall)) (b : List ℕ) : Type 0 where
     pub words : b ≡ map wordOf (buffered c h)
-    pub ordered : gathered (leaves c) h ++ b ≡ map wordOf (entered h)
     pub handedAre : Each (HandsFirst c) h
     pub oneEach : Each (DropsOne c) h
     pub counted : (k : ℕ) → times k (entered h) + times k (waitingSends h) ≡ times k (accepted h)
     pub kept : keep unforced (entered h ++ waitingSends h) ≡ keep unforced (accepted h)
 
   pub none-yet : Held [] []
-  none-yet = record { words = refl; ordered = refl; handedAre = tt; oneEach = tt; counted = λ k. refl; kept = refl }
+  none-yet = record { words = refl; handedAre = tt; oneEach = tt; counted = λ k. refl; kept = refl }
 
   module _ (m : Made QueueCall) (h : List (Made QueueCall)) (b b′ : List ℕ) (i : Held h b) (f : Moves m h b′) where
-    -- what is dropped and the line are what was in the buffer and what enters
-    line-whole : map wordOf (drops c m h) ++ map wordOf (line c (buffered c h) m h) ≡ b ++ map wordOf (enters m h)
-    line-whole =
-        let n = findsFull c (buffered c h) m in
-        let l = buffered c h in
-        ap (λ (k : List ℕ). map wordOf (take n l) ++ k) (map-append wordOf (drop n l) (enters m h))
-        ∙ sym (append-assoc (map wordOf (take n l)) (map wordOf (drop n l)) (map wordOf (enters m h)))
-        ∙ ap (λ (k : List ℕ). k ++ map wordOf (enters m h)) (sym (map-append wordOf (take n l) (drop n l)) ∙ ap (map wordOf) (take-append-drop n l) ∙ sym (i .words))
-
-    ordered-next : gathered (leaves c) (m ∷ h) ++ b′ ≡ map wordOf (entered (m ∷ h))
-    ordered-next =
-        let g = gathered (leaves c) h in
-        let d = map wordOf (drops c m h) in
-        append-assoc g (d ++ handed m) b′
-        ∙ ap (λ (k : List ℕ). g ++ k) (append-assoc d (handed m) b′ ∙ ap (λ (k : List ℕ). d ++ k) (f .flow) ∙ line-whole)
-        ∙ sym (append-assoc g b (map wordOf (enters m h)))
-        ∙ ap (λ (k : List ℕ). k ++ map wordOf (enters m h)) (i .ordered)
-        ∙ sym (map-append wordOf (entered h) (enters m h))
-
     kept-next : keep unforced (entered (m ∷ h) ++ waitingSends (m ∷ h)) ≡ keep unforced (accepted (m ∷ h))
     kept-next =
         let e = entered h in
@@ -216,7 +248,6 @@ module _ (c : ℕ) where
         let p = map-parts wordOf (handed m) b′ (line c (buffered c h) m h) (f .flow) in
         record {
           words = p .1;
-          ordered = ordered-next;
           handedAre = (p .0, i .handedAre);
           oneEach = (f .one, i .oneEach);
           counted = λ k. omega (arith, i .counted k, times-append k (entered h) (enters m h), times-append k (accepted h) (accepts m h), line-times k (f .turn));
@@ -224,6 +255,9 @@ module _ (c : ℕ) where
         }
 
   -- ---- the claims
+  pub in-order-held : (h : List (Made QueueCall)) (b : List ℕ) → Held h b → gathered (leaves c) h ++ b ≡ map wordOf (entered h)
+  in-order-held h b i = ap (λ (l : List ℕ). gathered (leaves c) h ++ l) (i .words) ∙ in-order c h (i .handedAre)
+
   pub all-placed : (h : List (Made QueueCall)) (b : List ℕ) → Held h b → (k : ℕ)
       → times k (handedOut c h) + times k (dropped c h) + times k (buffered c h) + times k (waitingSends h) + times k (withdrawn h) ≡ acceptedOf k h
   all-placed h b i k = omega (arith, entered-placed c k h, i .counted k, accepted-once k h)
