@@ -16,7 +16,7 @@ use Rattle.model.specs.Table.{Entry, task, fresh, checkEntry, enter, enterBy, c
 use Rattle.model.specs.Units.{unitOk}
 use Rattle.model.specs.Acts.{own, refer, setVector}
 use Rattle.model.specs.declared.sem.SemaphoreCall.the-variants.{Signal as signal, Acquire as acquire}
-use Rattle.model.specs.declared.dtq.QueueCall.the-variants.{Send as send, Receive as receive}
+use Rattle.model.specs.declared.dtq.QueueCall.the-variants.{Send as send, Receive as receive, ForcedSend as forcedSend}
 use Rattle.model.specs.declared.Patience.the-variants.{Polling, Forever}
 use Rattle.model.specs.Calls.{Call, call, onSemaphore, onQueue, asks}
 use Rattle.model.proofs.Numbers.{refusal-negative}
@@ -70,7 +70,7 @@ module _ (s₀ : State) (cs : List Call) (s : State) (l : List Said) (h : Ran s�
   pub every-refer : asks (c .op) .isRefer ≡ true → Tells s c r → Ran s₀ (c ∷ cs) (r .state) (whole-answer ∷ l)
   every-refer e d = refers cs s l h c e r d
 
--- ---- one run: n = 2, a task of domain 3, which is refused, one closing, then a call of each kind, in document 01's order
+-- ---- one run: n = 2, a task of domain 3, which is refused, one closing, then a call of each kind, in document 01's order, and the forced send (request T-05)
 abbrev signals : Call
 signals = call (pos 1) (onSemaphore (pos 1) (own signal))
 
@@ -104,9 +104,12 @@ refersToQueue = call (pos 1) (onQueue (pos 1) refer)
 abbrev setsQueue : Call
 setsQueue = call (pos 1) (onQueue (pos 1) (setVector (privateOf (pos 1))))
 
+abbrev forces : Call
+forces = call (pos 1) (onQueue (pos 1) (own (forcedSend 700)))
+
 -- the newest first
 abbrev each : List Call
-each = setsQueue ∷ refersToQueue ∷ receives ∷ pollReceives ∷ sends ∷ pollSends ∷ setsSemaphore ∷ refersToSemaphore ∷ waits ∷ polls ∷ signals ∷ []
+each = forces ∷ setsQueue ∷ refersToQueue ∷ receives ∷ pollReceives ∷ sends ∷ pollSends ∷ setsSemaphore ∷ refersToSemaphore ∷ waits ∷ polls ∷ signals ∷ []
 
 -- the state that a call gets: from the first one s, from each other what the answer before gave
 abbrev stateAt : State → (ℕ → Answer) → ℕ → State
@@ -126,12 +129,13 @@ pub record EachKind (s : State) (a : ℕ → Answer) : Type 0 where
   pub received : Does (stateAt s a 8) receives (a 8)
   pub queueTold : Tells (stateAt s a 9) refersToQueue (a 9)
   pub queueSet : Does (stateAt s a 10) setsQueue (a 10)
+  pub forced : Does (stateAt s a 11) forces (a 11)
 
 abbrev saidTo : (ℕ → Answer) → ℕ → List Said
 saidTo a zero = []
 saidTo a (suc k) = saidBy (a k) ∷ saidTo a k
 
-each-ran : (s : State) (a : ℕ → Answer) → EachKind s a → Ran s each (a 10 .state) (saidTo a 11)
+each-ran : (s : State) (a : ℕ → Answer) → EachKind s a → Ran s each (a 11 .state) (saidTo a 12)
 each-ran s a k =
     let h₁ = calls _ _ _ start signals (a 0) (k .signalled) in
     let h₂ = calls _ _ _ h₁ polls (a 1) (k .polled) in
@@ -143,11 +147,12 @@ each-ran s a k =
     let h₈ = calls _ _ _ h₇ pollReceives (a 7) (k .pollReceived) in
     let h₉ = calls _ _ _ h₈ receives (a 8) (k .received) in
     let h₁₀ = refers _ _ _ h₉ refersToQueue refl (a 9) (k .queueTold) in
-    calls _ _ _ h₁₀ setsQueue (a 10) (k .queueSet)
+    let h₁₁ = calls _ _ _ h₁₀ setsQueue (a 10) (k .queueSet) in
+    calls _ _ _ h₁₁ forces (a 11) (k .forced)
 
 -- the entry is refused by E_ID (-18), and demand 3 holds of the run
 pub full-run : (r₀ r₁ r₂ : Entered) → Begins (pos 2) minUnit r₀ → Enters (r₀ .state) (enter (viewOf (r₀ .state)) (task (pos 3))) r₁ → Enters (r₁ .state) (close (viewOf (r₁ .state))) r₂
-    → (a : ℕ → Answer) → EachKind (r₂ .state) a → (r₁ .code ≡ negℤ (pos 18)) × Whole (r₂ .state) (a 10 .state) each (saidTo a 11)
+    → (a : ℕ → Answer) → EachKind (r₂ .state) a → (r₁ .code ≡ negℤ (pos 18)) × Whole (r₂ .state) (a 11 .state) each (saidTo a 12)
 unfolding enter fresh unitOk
 full-run r₀ r₁ r₂ b e g a k = (
   ap (λ (r : Entered). r .code) (e .same) ∙ ap (λ (m : Model.State). codeOf (enter m (task (pos 3)) .answer .code)) (b .seen),

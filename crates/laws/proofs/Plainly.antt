@@ -22,7 +22,7 @@ use Rattle.model.specs.declared.Side.the-variants.{OnSem as onSem, Receiving as
 use Rattle.model.specs.declared.sem.SemaphoreCall.{SemaphoreCall}
 use Rattle.model.specs.declared.sem.SemaphoreCall.the-variants.{Signal as signal}
 use Rattle.model.specs.declared.dtq.QueueCall.{QueueCall}
-use Rattle.model.specs.declared.dtq.QueueCall.the-variants.{Send as send, Receive as receive}
+use Rattle.model.specs.declared.dtq.QueueCall.the-variants.{Send as send, Receive as receive, ForcedSend as forcedSend}
 use Rattle.model.specs.Calls.{onSemaphore, onQueue, Call, call, step}
 use Rattle.model.specs.Lists.{Some, total}
 use Rattle.model.specs.History.{event, after, history}
@@ -94,7 +94,7 @@ module _ (s₁ : State) (e : Waiter) (ahead : List Waiter) (cs : List Call) (s :
   pub stands-first : (p : Place) → TakesTurns s₁ p e ahead → Due p → (m : List Waiter) × (waitersAt (viewOf s) p ≡ e ∷ m)
   stands-first p t n = let x = t .still cs s l h (omega arith) in (x .0, x .1 ∙ ap (λ (a : List Waiter). a ++ e ∷ x .0) (ap (λ (k : ℕ). drop k ahead) n ∙ drop-length ahead))
 
-  -- and the next accepted one releases it: a signal, a send, a receive
+  -- and the next accepted one releases it: a signal, a send, a forced send, a receive
   module _ (t n : ℤ) (r : Answer) where
     code-is : (c : Call) (k : Code) → Does s c r → r .outcome ≡ outcomeOf k → step (viewOf s) c .answer .code ≡ k
     code-is c k d o = apart _ k (sym (ap (λ (y : Answer). y .outcome) (d .same)) ∙ o)
@@ -107,6 +107,9 @@ module _ (s₁ : State) (e : Waiter) (ahead : List Waiter) (cs : List Call) (s :
 
     pub send-releases : (p : Patience) (w : ℕ) → TakesTurns s₁ (place receiving (no n)) e ahead → Due (place receiving (no n)) → Does s (call t (onQueue n (own (send p w)))) r → r .outcome ≡ Outcome.Code (pos 0) → r .released .task ≡ e .task
     send-releases p w u z d o = u .served cs s l h z _ r d (rw (code-is _ ok d o) (at-place (place receiving (no n))))
+
+    pub force-releases : (w : ℕ) → TakesTurns s₁ (place receiving (no n)) e ahead → Due (place receiving (no n)) → Does s (call t (onQueue n (own (forcedSend w)))) r → r .outcome ≡ Outcome.Code (pos 0) → r .released .task ≡ e .task
+    force-releases w u z d o = u .served cs s l h z _ r d (rw (code-is _ ok d o) (at-place (place receiving (no n))))
 
     pub receive-releases : (p : Patience) → TakesTurns s₁ (place sending (no n)) e ahead → Due (place sending (no n)) → Does s (call t (onQueue n (own (receive p)))) r → r .outcome ≡ Outcome.Code (pos 0) → r .released .task ≡ e .task
     receive-releases p u z d o = u .served cs s l h z _ r d (rw (code-is _ ok d o) (at-place (place sending (no n))))

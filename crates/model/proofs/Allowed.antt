@@ -15,10 +15,10 @@ use Rattle.model.specs.Answers.{Released, Answer, whenWaiting}
 use Rattle.model.specs.Waits.{Patience}
 use Rattle.model.specs.Acts.{Act, own, refer, setVector}
 use Rattle.model.specs.Semaphores.{signal, acquire}
-use Rattle.model.specs.Queues.{QueueCall, send, receive}
+use Rattle.model.specs.Queues.{QueueCall, send, receive, forcedSend}
 use Rattle.model.specs.Calls.{Op, onSemaphore, onQueue, call}
 use Rattle.model.specs.History.{Event, History, Made, seenBy, askedIf, ofAsked, vectorSince, pending}
-use Rattle.model.specs.QueueClaims.{askedOf, byQueue, began, IsReceive, mayReceive, SentAllowed, TakenAllowed, Came}
+use Rattle.model.specs.QueueClaims.{askedOf, byQueue, sentIn, began, IsReceive, mayReceive, SentAllowed, TakenAllowed, Came}
 use Rattle.model.specs.Releases.{servedBy, WaitsAt, WaitsNot, EndsWait, ReleasesWaiters}
 use Rattle.model.specs.Demand3.{Demand3}
 use Rattle.model.proofs.Lists.{eq-of, eqb-same, eqb-no}
@@ -36,6 +36,12 @@ each-seen q P (y ∷ l) e h k = each-seen q P l e h (k .1)
 is-true : (b : Bool) → T b → b ≡ true
 is-true true k = refl
 is-true false k = absurd k
+
+-- a send of any kind
+abbrev pub IsSend : QueueCall → Type 0
+IsSend (send p w) = Unit
+IsSend (receive p) = ⊥
+IsSend (forcedSend w) = Unit
 
 -- ---- where a released receiver came from
 -- a call that is not task t's, or did not answer "waiting"
@@ -69,6 +75,7 @@ module _ (domain : ℕ → ℤ) (v : Vector) (n : ℤ) (t : ℕ) where
       go : (b : Bool) → eqb (no n) (no z) ≡ b → (a : Act QueueCall) → ofAsked ⊥ IsReceive (askedIf b a) → Received n (onQueue z a)
       go true e (own (receive p)) k = (z, (p, (sym (eq-of (no n) (no z) e), refl)))
       go true e (own (send p w)) k = absurd k
+      go true e (own (forcedSend w)) k = absurd k
       go true e refer k = absurd k
       go true e (setVector x) k = absurd k
       go false e a k = absurd k
@@ -100,14 +107,19 @@ module _ (s₀ s found : State) (later h : History) (t n : ℤ) (a : Answer) whe
   here x = ap (λ b. askedIf b x) (eqb-same (no n))
 
   -- an accepted send came from a domain that normal operation 1 admitted
-  pub sender-admitted : (p : Patience) (w : ℕ) → (a .code ≡ ok) ⊎ (a .code ≡ waiting) → Claimed (onQueue n (own (send p w))) → admitted (vectorThen .normal1) (domainAt s₀ (no t)) ≡ true
-  sender-admitted p w k d = go (a .code) k
-      (subst (λ (o : Option (Act QueueCall)). SentAllowed (domainAt s₀) (queueAt s₀ (no n) .vector) (seen o (a .code)) (byQueue (no n) h)) (here (own (send p w)))
+  pub sender-admitted : (x : QueueCall) → IsSend x → (a .code ≡ ok) ⊎ (a .code ≡ waiting) → Claimed (onQueue n (own x)) → admitted (vectorThen .normal1) (domainAt s₀ (no t)) ≡ true
+  sender-admitted x i k d = go (a .code) k
+      (subst (λ (o : Option (Act QueueCall)). SentAllowed (domainAt s₀) (queueAt s₀ (no n) .vector) (seen o (a .code)) (byQueue (no n) h)) (here (own x))
       (each-seen (no n) (SentAllowed (domainAt s₀) (queueAt s₀ (no n) .vector)) later _ h (d .queues (no n) .sendersAllowed)))
     where
-      go : (c : Code) → (c ≡ ok) ⊎ (c ≡ waiting) → SentAllowed (domainAt s₀) (queueAt s₀ (no n) .vector) (seen (some (own (send p w))) c) (byQueue (no n) h) → admitted (vectorThen .normal1) (domainAt s₀ (no t)) ≡ true
-      go ok j z = is-true _ (z .0)
-      go waiting j z = is-true _ (z .0)
+      one : (x : QueueCall) → IsSend x → All (λ (w : ℕ). T (admitted (vectorThen .normal1) (domainAt s₀ (no t)))) (sentIn x) → admitted (vectorThen .normal1) (domainAt s₀ (no t)) ≡ true
+      one (send p w) i z = is-true _ (z .0)
+      one (receive p) i z = absurd i
+      one (forcedSend w) i z = is-true _ (z .0)
+
+      go : (c : Code) → (c ≡ ok) ⊎ (c ≡ waiting) → SentAllowed (domainAt s₀) (queueAt s₀ (no n) .vector) (seen (some (own x)) c) (byQueue (no n) h) → admitted (vectorThen .normal1) (domainAt s₀ (no t)) ≡ true
+      go ok j z = one x i z
+      go waiting j z = one x i z
       go (error e) (inl j) z = cc
       go (error e) (inr j) z = cc
 
@@ -122,12 +134,17 @@ module _ (s₀ s found : State) (later h : History) (t n : ℤ) (a : Answer) whe
   taker-admitted p k d = is-true _ (taken (own (receive p)) d k)
 
   -- a task that a send releases: its newest call that answered "waiting" was a receive from this queue, by a domain that normal operation 2 admitted then
-  module _ (p : Patience) (w : ℕ) (k : a .code ≡ ok) (before behind : List Released) (r : Released) (rs : a .released ≡ before ++ r ∷ behind) (d : Claimed (onQueue n (own (send p w)))) where
+  module _ (x : QueueCall) (i : IsSend x) (k : a .code ≡ ok) (before behind : List Released) (r : Released) (rs : a .released ≡ before ++ r ∷ behind) (d : Claimed (onQueue n (own x))) where
     came : Came (domainAt s₀) (queueAt s₀ (no n) .vector) (r .task) (byQueue (no n) h)
-    came = all-each Arrived (a .released) before behind r rs (taken (own (send p w)) d k)
+    came = all-each Arrived (a .released) before behind r rs (go x i (taken (own x) d k))
       where
         Arrived : Released → Type 0
         Arrived y = Came (domainAt s₀) (queueAt s₀ (no n) .vector) (y .task) (byQueue (no n) h)
+
+        go : (x : QueueCall) → IsSend x → TakenAllowed (domainAt s₀) (queueAt s₀ (no n) .vector) (seen (some (own x)) ok) (byQueue (no n) h) → All Arrived (a .released)
+        go (send p w) i z = z
+        go (receive p) i z = absurd i
+        go (forcedSend w) i z = z
 
     -- it had begun to wait
     pub taker-waited : All (NotBegun (r .task)) h → ⊥
@@ -160,8 +177,10 @@ module _ (s₀ s₁ s₂ s found : State) (later h : History) (t n : ℤ) (a : A
   pub signal-ends : Before (onSemaphore n (own signal)) → Waited onSem
   signal-ends d = waited _ onSem refl d
 
-  pub send-ends : (p : Patience) (w : ℕ) → Before (onQueue n (own (send p w))) → Waited receiving
-  send-ends p w d = waited _ receiving refl d
+  pub send-ends : (x : QueueCall) → IsSend x → Before (onQueue n (own x)) → Waited receiving
+  send-ends (send p w) i d = waited _ receiving refl d
+  send-ends (receive p) i d = absurd i
+  send-ends (forcedSend w) i d = waited _ receiving refl d
 
   pub receive-ends : (p : Patience) → Before (onQueue n (own (receive p))) → Waited sending
   receive-ends p d = waited _ sending refl d

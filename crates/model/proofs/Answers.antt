@@ -16,11 +16,13 @@ use Rattle.itron.specs.Codes.{Err, eCtx, eId, ePar, eNoexs, eOacv, Code, ok, er
 use Rattle.model.specs.Lists.{All}
 use Rattle.model.specs.State.{Vector, Waiter, State, semAt, queueAt, domainAt, no}
 use Rattle.model.specs.Answers.{Released, Answer, Out, refuseIf}
-use Rattle.model.specs.Waits.{absent, firstTask}
-use Rattle.model.specs.Acts.{Act, operationOf, clear}
+use Rattle.model.specs.Waits.{Patience, absent, firstTask}
+use Rattle.model.specs.Acts.{Act, own, refer, setVector, operationOf, clear}
 use Rattle.model.specs.Rooms.{Room, ready, inRange, admits, vectorAt, slotsOf, check}
 use Rattle.model.specs.Semaphores as Semaphores
+use Rattle.model.specs.Semaphores.{signal, acquire}
 use Rattle.model.specs.Queues as Queues
+use Rattle.model.specs.Queues.{send, receive, forcedSend}
 use Rattle.model.specs.Calls.{Op, onSemaphore, onQueue, call, asks, actIf, step}
 use Rattle.model.specs.SemaphoreClaims as SemaphoreClaims
 use Rattle.model.specs.QueueClaims as QueueClaims
@@ -36,6 +38,25 @@ use Rattle.model.proofs.Tests.{Tells, le-tells, eq-tells, true-tells, a
 abbrev pub patternNow : State → Op → ℕ
 patternNow s (onSemaphore n a) = SemaphoreClaims.patternFor (semAt s (no n) .vector) a
 patternNow s (onQueue n a) = QueueClaims.patternFor (queueAt s (no n) .vector) a
+
+-- "Signal and both sends are normal operation 1. Poll, wait and both receives are normal operation 2. Set-vector is management, refer is reference"
+pub semaphore-governed : (s : State) (n : ℤ) (p : Patience) (v : Vector)
+    → (patternNow s (onSemaphore n (own signal)) ≡ semAt s (no n) .vector .normal1)
+    × (patternNow s (onSemaphore n (own (acquire p))) ≡ semAt s (no n) .vector .normal2)
+    × (patternNow s (onSemaphore n (setVector v)) ≡ semAt s (no n) .vector .management)
+    × (patternNow s (onSemaphore n refer) ≡ semAt s (no n) .vector .reference)
+semaphore-governed s n p v = (refl, refl, refl, refl)
+
+pub queue-governed : (s : State) (n : ℤ) (p : Patience) (w : ℕ) (v : Vector)
+    → (patternNow s (onQueue n (own (send p w))) ≡ queueAt s (no n) .vector .normal1)
+    × (patternNow s (onQueue n (own (receive p))) ≡ queueAt s (no n) .vector .normal2)
+    × (patternNow s (onQueue n (setVector v)) ≡ queueAt s (no n) .vector .management)
+    × (patternNow s (onQueue n refer) ≡ queueAt s (no n) .vector .reference)
+queue-governed s n p w v = (refl, refl, refl, refl)
+
+-- forced send: "It is normal operation 1" (request T-05)
+pub force-governed : (s : State) (n : ℤ) (w : ℕ) → patternNow s (onQueue n (own (forcedSend w))) ≡ queueAt s (no n) .vector .normal1
+force-governed s n w = refl
 
 -- the caller's domain is admitted
 abbrev pub May : State → ℕ → Op → Type 0

@@ -6,10 +6,10 @@ use mathlib.Core.Bool.{Bool, true, false, not}
 use mathlib.Core.List.{List, [], _∷_, _++_}
 use Prim.Native.Nat.{ℕ, suc, _≤_, _<_}
 use native.Mathlib.Omega.{arith}
-use lib.Dec.{leb, ltb}
+use lib.Dec.{eqb, leb, ltb}
 use lib.IntN.{pos}
-use lib.ListN.{length}
-use Rattle.itron.specs.Codes.{ok, waiting}
+use lib.ListN.{length, drop}
+use Rattle.itron.specs.Codes.{eIluse, ok, waiting}
 use Rattle.model.specs.Lists.{at, put, consIf, keep, All}
 use Rattle.model.specs.State.{Vector, Sem, Queue, onSem, receiving, sending, Place, Waiter, Fixed, State, noSem, noQueue, samePlace}
 use Rattle.model.specs.Answers.{Answer, out}
@@ -19,12 +19,12 @@ use Rattle.model.specs.Rooms.{onRecords}
 use Rattle.model.specs.Semaphores as Semaphores
 use Rattle.model.specs.Semaphores.{SemaphoreCall, signal, acquire, signalBy, acquireBy}
 use Rattle.model.specs.Queues as Queues
-use Rattle.model.specs.Queues.{QueueCall, send, receive, sendBy, receiveBy}
+use Rattle.model.specs.Queues.{QueueCall, send, receive, forcedSend, sendBy, receiveBy, forceBy}
 use Rattle.model.specs.Calls.{Op, onSemaphore, onQueue, call, step}
 use Rattle.model.proofs.Lists.{no-both, eqb-same, keep-append, Distinct, keep-absent}
 use Rattle.model.proofs.WaitQueues.{place-of, alike}
-use Rattle.model.proofs.Tests.{holds, fails, le-tells, lt-tells}
-use Rattle.model.proofs.Answers.{Passes, absent-tells, answers, with, does}
+use Rattle.model.proofs.Tests.{holds, fails, le-tells, lt-tells, eq-tells}
+use Rattle.model.proofs.Answers.{Passes, absent-tells, answers, refuses, with, does}
 use Rattle.model.proofs.Places.{nth, all-each}
 
 -- ---- the waiting tasks, first to last
@@ -184,36 +184,72 @@ module _ (f : Fixed) (xs : List Sem) (k : ℕ) (l m : List Queue) where
         ≡ out a (queueState ws (withBuffer x (g x)))
     stored g ws a = ap (λ (ys : List Queue). out a (record { fixed = f; waits = ws; sems = xs; queues = ys })) (put-made noQueue (λ (y : Queue). withBuffer y (g y)) l m x)
 
+    -- a receiver that gets the word leaves
+    received : (c b : List Waiter) (e : Waiter) → FirstAt toReceive c b e → (a : Answer) → out a (queueState (leave (e .task) (c ++ (e ∷ b))) x) ≡ out a (queueState (c ++ b) x)
+    received c b e h a = ap (λ (ws : List Waiter). out a (queueState ws x)) (others-left c b e (h .once))
+
     module _ (a : Patience) (w : ℕ) where
+      send-by : (ws c : List Waiter) (t : Bool) → waitersIn ws toReceive ≡ c → ltb (length (x .buffer)) (x .capacity) ≡ t → Passes (queueState ws x) (pos k) (askQueue (own (send a w)))
+          → step (queueState ws x) (call (pos k) (askQueue (own (send a w)))) ≡ onRecords Queues.room (queueState ws x) (sendBy ws (l ++ (x ∷ m)) k (suc (length l)) w a c t)
+      send-by ws c t h r p =
+          let s = queueState ws x in
+          let y = nth noQueue x l m in
+          does s (pos k) (askQueue (own (send a w))) p
+          ∙ (λ j. onRecords Queues.room s (sendBy ws (s .queues) k (suc (length l)) w a (h j) (ltb (length (y j .buffer)) (y j .capacity))))
+          ∙ ap (λ (b : Bool). onRecords Queues.room s (sendBy ws (s .queues) k (suc (length l)) w a c b)) r
+
       -- "With a waiting receiver, the first gets the word and is released"
       pub send-hands : (c b : List Waiter) (e : Waiter) → FirstAt toReceive c b e → Passes (queueState (c ++ (e ∷ b)) x) (pos k) (askQueue (own (send a w)))
           → step (queueState (c ++ (e ∷ b)) x) (call (pos k) (askQueue (own (send a w)))) ≡ record { answer = answers ok 0 (with e w); state = queueState (c ++ b) x }
-      send-hands c b e h p =
-          let s = queueState (c ++ (e ∷ b)) x in
-          let i = first-found toReceive c b e (h .there) (h .ahead) in
-          does s (pos k) (askQueue (own (send a w))) p
-          ∙ (λ j. onRecords Queues.room s (sendBy (s .waits) (s .queues) k (suc (length l)) w a (i j) (Queues.hasRoom (at noQueue (s .queues) (suc (length l))))))
-          ∙ ap (λ (ws : List Waiter). record { answer = answers ok 0 (with e w); state = queueState ws x }) (others-left c b e (h .once))
-
-      by-room : (ws : List Waiter) (t : Bool) → Nobody toReceive ws → ltb (length (x .buffer)) (x .capacity) ≡ t → Passes (queueState ws x) (pos k) (askQueue (own (send a w)))
-          → step (queueState ws x) (call (pos k) (askQueue (own (send a w)))) ≡ onRecords Queues.room (queueState ws x) (sendBy ws (l ++ (x ∷ m)) k (suc (length l)) w a [] t)
-      by-room ws t h r p =
-          let s = queueState ws x in
-          let i = nobody-found toReceive ws h in
-          let y = nth noQueue x l m in
-          does s (pos k) (askQueue (own (send a w))) p
-          ∙ (λ j. onRecords Queues.room s (sendBy ws (s .queues) k (suc (length l)) w a (i j) (ltb (length (y j .buffer)) (y j .capacity))))
-          ∙ ap (λ (b : Bool). onRecords Queues.room s (sendBy ws (s .queues) k (suc (length l)) w a [] b)) r
+      send-hands c b e h p = send-by (c ++ (e ∷ b)) (e ∷ waitersIn b toReceive) _ (first-found toReceive c b e (h .there) (h .ahead)) refl p ∙ received c b e h (answers ok 0 (with e w))
 
       -- "Otherwise, with room, the word goes last into the buffer"
       pub send-buffers : (ws : List Waiter) → Nobody toReceive ws → length (x .buffer) < x .capacity → Passes (queueState ws x) (pos k) (askQueue (own (send a w)))
           → step (queueState ws x) (call (pos k) (askQueue (own (send a w)))) ≡ record { answer = answers ok 0 []; state = queueState ws (withBuffer x (x .buffer ++ (w ∷ []))) }
-      send-buffers ws h r p = by-room ws true h (holds (lt-tells (length (x .buffer)) (x .capacity)) r) p ∙ stored (λ (y : Queue). y .buffer ++ (w ∷ [])) ws (answers ok 0 [])
+      send-buffers ws h r p = send-by ws [] true (nobody-found toReceive ws h) (holds (lt-tells (length (x .buffer)) (x .capacity)) r) p ∙ stored (λ (y : Queue). y .buffer ++ (w ∷ [])) ws (answers ok 0 [])
 
     -- "send waits with its word, last"
     pub send-joins : (ws : List Waiter) (w : ℕ) → Nobody toReceive ws → x .capacity ≤ length (x .buffer) → Passes (queueState ws x) (pos k) (askQueue (own (send forever w)))
         → step (queueState ws x) (call (pos k) (askQueue (own (send forever w)))) ≡ record { answer = answers waiting 0 []; state = queueState (ws ++ (record { task = k; place = toSend; word = w } ∷ [])) x }
-    send-joins ws w h r p = by-room forever w ws false h (fails (lt-tells (length (x .buffer)) (x .capacity)) (λ z. omega arith)) p
+    send-joins ws w h r p = send-by forever w ws [] false (nobody-found toReceive ws h) (fails (lt-tells (length (x .buffer)) (x .capacity)) (λ z. omega arith)) p
+
+    -- forced send, by request T-05
+    module _ (w : ℕ) where
+      force-by : (ws : List Waiter) (none : Bool) (c : List Waiter) (t : Bool) → eqb (x .capacity) 0 ≡ none → waitersIn ws toReceive ≡ c → ltb (length (x .buffer)) (x .capacity) ≡ t
+          → Passes (queueState ws x) (pos k) (askQueue (own (forcedSend w)))
+          → step (queueState ws x) (call (pos k) (askQueue (own (forcedSend w)))) ≡ onRecords Queues.room (queueState ws x) (forceBy ws (l ++ (x ∷ m)) (suc (length l)) w none c t)
+      force-by ws none c t e h r p =
+          let s = queueState ws x in
+          let y = nth noQueue x l m in
+          does s (pos k) (askQueue (own (forcedSend w))) p
+          ∙ (λ j. onRecords Queues.room s (forceBy ws (s .queues) (suc (length l)) w (eqb (y j .capacity) 0) (h j) (ltb (length (y j .buffer)) (y j .capacity))))
+          ∙ (λ j. onRecords Queues.room s (forceBy ws (s .queues) (suc (length l)) w (e j) c (r j)))
+
+      -- "on capacity 0 it is E_ILUSE, after E_OACV, even with a waiting receiver": whoever waits, and nothing changes
+      pub force-refused : (ws : List Waiter) → x .capacity ≡ 0 → Passes (queueState ws x) (pos k) (askQueue (own (forcedSend w)))
+          → step (queueState ws x) (call (pos k) (askQueue (own (forcedSend w)))) ≡ record { answer = refuses eIluse; state = queueState ws x }
+      force-refused ws e p = force-by ws true _ _ (holds (eq-tells (x .capacity) 0) e) refl refl p
+
+      -- "with a waiting receiver as before"
+      pub force-hands : (c b : List Waiter) (e : Waiter) → FirstAt toReceive c b e → x .capacity ≢ 0 → Passes (queueState (c ++ (e ∷ b)) x) (pos k) (askQueue (own (forcedSend w)))
+          → step (queueState (c ++ (e ∷ b)) x) (call (pos k) (askQueue (own (forcedSend w)))) ≡ record { answer = answers ok 0 (with e w); state = queueState (c ++ b) x }
+      force-hands c b e h z p =
+          force-by (c ++ (e ∷ b)) false (e ∷ waitersIn b toReceive) _ (fails (eq-tells (x .capacity) 0) z) (first-found toReceive c b e (h .there) (h .ahead)) refl p ∙ received c b e h (answers ok 0 (with e w))
+
+      -- "into room as before"
+      pub force-buffers : (ws : List Waiter) → Nobody toReceive ws → length (x .buffer) < x .capacity → Passes (queueState ws x) (pos k) (askQueue (own (forcedSend w)))
+          → step (queueState ws x) (call (pos k) (askQueue (own (forcedSend w)))) ≡ record { answer = answers ok 0 []; state = queueState ws (withBuffer x (x .buffer ++ (w ∷ []))) }
+      force-buffers ws h r p =
+          force-by ws false [] true (fails (eq-tells (x .capacity) 0) (λ z. omega arith)) (nobody-found toReceive ws h) (holds (lt-tells (length (x .buffer)) (x .capacity)) r) p
+          ∙ stored (λ (y : Queue). y .buffer ++ (w ∷ [])) ws (answers ok 0 [])
+
+      -- "into a full buffer it drops the oldest word and appends its own": whoever waits to send stays
+      pub force-replaces : (ws : List Waiter) (z : ℕ) (b : List ℕ) → x .buffer ≡ z ∷ b → Nobody toReceive ws → x .capacity ≢ 0 → x .capacity ≤ length (x .buffer) → Passes (queueState ws x) (pos k) (askQueue (own (forcedSend w)))
+          → step (queueState ws x) (call (pos k) (askQueue (own (forcedSend w)))) ≡ record { answer = answers ok 0 []; state = queueState ws (withBuffer x (b ++ (w ∷ []))) }
+      force-replaces ws z b e h n r p =
+          force-by ws false [] false (fails (eq-tells (x .capacity) 0) n) (nobody-found toReceive ws h) (fails (lt-tells (length (x .buffer)) (x .capacity)) (λ q. omega arith)) p
+          ∙ stored (λ (y : Queue). drop 1 (y .buffer) ++ (w ∷ [])) ws (answers ok 0 [])
+          ∙ ap (λ (y : List ℕ). out (answers ok 0 []) (queueState ws (withBuffer x (drop 1 y ++ (w ∷ []))))) e
 
     module _ (a : Patience) where
       by-content : (ws : List Waiter) (b : List ℕ) (c : List Waiter) → x .buffer ≡ b → waitersIn ws toSend ≡ c → Passes (queueState ws x) (pos k) (askQueue (own (receive a)))

@@ -1,20 +1,21 @@
 -- What a call on a data queue that passes the checks answers (document 01, "Calls on an open gateway"): its sentences, each by plain facts of the state before. Assumes nothing.
 use mathlib.Core.Path.{_≡_, refl, sym, _∙_, subst}
+use mathlib.Core.Logic.{_≢_}
 use mathlib.Core.Bool.{Bool, true, false}
 use mathlib.Core.List.{List, [], _∷_}
 use Prim.Native.Nat.{ℕ, _≤_, _<_}
 use native.Mathlib.Omega.{arith}
-use lib.Dec.{ltb}
+use lib.Dec.{eqb, ltb}
 use lib.IntN.{ℤ}
 use lib.ListN.{length}
-use Rattle.itron.specs.Codes.{eTmout, ok, waiting}
+use Rattle.itron.specs.Codes.{eIluse, eTmout, ok, waiting}
 use Rattle.model.specs.State.{Vector, Waiter, State, queueAt, no}
 use Rattle.model.specs.Answers.{Answer}
 use Rattle.model.specs.Waits.{Patience, polling, forever, senders, receivers}
 use Rattle.model.specs.Acts.{own, refer, setVector}
-use Rattle.model.specs.Queues.{send, receive, sendBy, receiveBy}
+use Rattle.model.specs.Queues.{send, receive, forcedSend, sendBy, receiveBy, forceBy}
 use Rattle.model.specs.Calls.{onQueue, call, step}
-use Rattle.model.proofs.Tests.{holds, fails, lt-tells}
+use Rattle.model.proofs.Tests.{holds, fails, lt-tells, eq-tells}
 use Rattle.model.proofs.Answers.{Passes, answers, refuses, with, acts, first, ReferTells}
 
 -- "With a waiting receiver, the first gets the word and is released. Otherwise, with room, .. Otherwise poll-send gives E_TMOUT; send waits"
@@ -39,6 +40,26 @@ send-waits s t n w p h k = send-full s t n w forever p h k
 pub send-times-out : (s : State) (t n : ℤ) (w : ℕ) → Passes s t (onQueue n (own (send polling w))) → receivers s (no n) ≡ [] → queueAt s (no n) .capacity ≤ length (queueAt s (no n) .buffer)
     → step s (call t (onQueue n (own (send polling w)))) .answer ≡ refuses eTmout
 send-times-out s t n w p h k = send-full s t n w polling p h k
+
+-- Request T-05: forced send "with a waiting receiver as before; into room as before; into a full buffer it drops the oldest word and appends its own;
+-- on capacity 0 it is E_ILUSE, after E_OACV, even with a waiting receiver"
+module _ (s : State) (t n : ℤ) (w : ℕ) (p : Passes s t (onQueue n (own (forcedSend w)))) where
+  force-by : (none : Bool) (l : List Waiter) (room : Bool) → eqb (queueAt s (no n) .capacity) 0 ≡ none → receivers s (no n) ≡ l → ltb (length (queueAt s (no n) .buffer)) (queueAt s (no n) .capacity) ≡ room
+      → step s (call t (onQueue n (own (forcedSend w)))) .answer ≡ forceBy (s .waits) (s .queues) (no n) w none l room .answer
+  force-by none l room e h k = acts s t (onQueue n (own (forcedSend w))) p ∙ (λ i. forceBy (s .waits) (s .queues) (no n) w (e i) (h i) (k i) .answer)
+
+  pub force-misused : queueAt s (no n) .capacity ≡ 0 → step s (call t (onQueue n (own (forcedSend w)))) .answer ≡ refuses eIluse
+  force-misused e = force-by true _ _ (holds (eq-tells _ 0) e) refl refl
+
+  pub force-releases : (e : Waiter) (l : List Waiter) → queueAt s (no n) .capacity ≢ 0 → receivers s (no n) ≡ e ∷ l → step s (call t (onQueue n (own (forcedSend w)))) .answer ≡ answers ok 0 (with e w)
+  force-releases e l z h = force-by false (e ∷ l) _ (fails (eq-tells _ 0) z) h refl
+
+  pub force-stores : receivers s (no n) ≡ [] → length (queueAt s (no n) .buffer) < queueAt s (no n) .capacity → step s (call t (onQueue n (own (forcedSend w)))) .answer ≡ answers ok 0 []
+  force-stores h k = force-by false [] true (fails (eq-tells (queueAt s (no n) .capacity) 0) (λ z. omega (arith, k, z))) h (holds (lt-tells _ _) k)
+
+  -- whoever waits to send
+  pub force-drops : queueAt s (no n) .capacity ≢ 0 → receivers s (no n) ≡ [] → queueAt s (no n) .capacity ≤ length (queueAt s (no n) .buffer) → step s (call t (onQueue n (own (forcedSend w)))) .answer ≡ answers ok 0 []
+  force-drops z h k = force-by false [] false (fails (eq-tells _ 0) z) h (fails (lt-tells (length (queueAt s (no n) .buffer)) (queueAt s (no n) .capacity)) (λ z. omega arith))
 
 -- "A buffered word: the oldest is handed out; if a sender waits, .. it is released. Empty buffer with a waiting sender (capacity 0): its word is
 -- handed out and it is released. Otherwise poll-receive gives E_TMOUT; receive waits"
