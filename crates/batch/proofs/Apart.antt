@@ -5,7 +5,7 @@ use mathlib.Core.Bool.{false, cond}
 use mathlib.Core.List.{List}
 use lib.Dec.{eqb}
 use lib.ListN.{getD}
-use Rattle.itron.specs.Codes.{Code, ok, waiting, error, eRsatr, ePar, eId, eCtx, eMacv, eOacv, eNomem, eNoid, eObj, eNoexs, eQovr, eTmout}
+use Rattle.itron.specs.Codes.{Code, ok, waiting, error, eRsatr, ePar, eId, eCtx, eMacv, eOacv, eIluse, eNomem, eNoid, eObj, eNoexs, eQovr, eTmout}
 use Rattle.model.specs.Answers.{Answer, outcomeOf, replyOf}
 use Rattle.model.proofs.Lists.{ne-of}
 use Rattle.batch.specs.Encoding.{outcomeWord, encoded, noCall}
@@ -21,12 +21,13 @@ codeFrom n =
     (cond (eqb n 4294967271) (error eCtx)
     (cond (eqb n 4294967270) (error eMacv)
     (cond (eqb n 4294967269) (error eOacv)
+    (cond (eqb n 4294967268) (error eIluse)
     (cond (eqb n 4294967263) (error eNomem)
     (cond (eqb n 4294967262) (error eNoid)
     (cond (eqb n 4294967255) (error eObj)
     (cond (eqb n 4294967254) (error eNoexs)
     (cond (eqb n 4294967253) (error eQovr)
-    (error eTmout)))))))))))))
+    (error eTmout))))))))))))))
 
 code-from : (c : Code) → codeFrom (outcomeWord (outcomeOf c)) ≡ c
 code-from ok = refl
@@ -37,6 +38,7 @@ code-from (error eId) = refl
 code-from (error eCtx) = refl
 code-from (error eMacv) = refl
 code-from (error eOacv) = refl
+code-from (error eIluse) = refl
 code-from (error eNomem) = refl
 code-from (error eNoid) = refl
 code-from (error eObj) = refl
@@ -54,6 +56,7 @@ no-code (error eId) = refl
 no-code (error eCtx) = refl
 no-code (error eMacv) = refl
 no-code (error eOacv) = refl
+no-code (error eIluse) = refl
 no-code (error eNomem) = refl
 no-code (error eNoid) = refl
 no-code (error eObj) = refl

@@ -18,7 +18,7 @@ use Rattle.model.specs.State.{Vector}
 use Rattle.model.specs.Lists.{All, words}
 use Rattle.model.specs.Acts.{own, refer, setVector}
 use Rattle.model.specs.declared.sem.SemaphoreCall.the-variants.{Signal as signal, Acquire as acquire}
-use Rattle.model.specs.declared.dtq.QueueCall.the-variants.{Send as send, Receive as receive}
+use Rattle.model.specs.declared.dtq.QueueCall.the-variants.{Send as send, Receive as receive, ForcedSend as forcedSend}
 use Rattle.model.specs.declared.Patience.the-variants.{Polling, Forever}
 use Rattle.model.specs.Calls.{Op, Call, call, onSemaphore, onQueue}
 use Rattle.batch.specs.declared.numbers.Numbers.{Numbers}
@@ -72,11 +72,12 @@ means-by w v t (onQueue n (own (receive Polling))) = refl
 means-by w v t (onQueue n (own (receive Forever))) = refl
 means-by w v t (onQueue n refer) = refl
 means-by w v t (onQueue n (setVector x)) = refl
+means-by w v t (onQueue n (own (forcedSend x))) = refl
 
 pub means : (w : ℕ) (v : Vector) (c : Call) → itemOf (numbersOf w v c) ≡ some c
 means w v c = means-by w v (c .caller) (c .op)
 
-pub means-nothing : (q : Numbers) → (q .function ≡ 0) ⊎ (11 < q .function) → itemOf q ≡ none
+pub means-nothing : (q : Numbers) → (q .function ≡ 0) ⊎ (12 < q .function) → itemOf q ≡ none
 means-nothing q (inl e) = rw e
 means-nothing q (inr l) = beyond (meanings q) (q .function) l
 

@@ -11,7 +11,7 @@ use lib.ListN.{length, take, drop, replicate, length-drop}
 use lib.Seq.{take-all, drop-at, drop-append-le, take-append-le}
 use mir.Syntax.{w32}
 use mir.Val.{ofZ}
-use Rattle.itron.specs.Codes.{Code, ok, waiting, error, eRsatr, ePar, eId, eCtx, eMacv, eOacv, eNomem, eNoid, eObj, eNoexs, eQovr, eTmout}
+use Rattle.itron.specs.Codes.{Code, ok, waiting, error, eRsatr, ePar, eId, eCtx, eMacv, eOacv, eIluse, eNomem, eNoid, eObj, eNoexs, eQovr, eTmout}
 use Rattle.model.specs.State as Model
 use Rattle.model.specs.Answers.{Answer, outcomeOf}
 use Rattle.model.specs.Calls.{Call, step}
@@ -35,6 +35,7 @@ code-said (error eId) = refl
 code-said (error eCtx) = refl
 code-said (error eMacv) = refl
 code-said (error eOacv) = refl
+code-said (error eIluse) = refl
 code-said (error eNomem) = refl
 code-said (error eNoid) = refl
 code-said (error eObj) = refl

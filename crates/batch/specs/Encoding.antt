@@ -11,7 +11,7 @@ use mir.Val.{toZ, ofZ}
 use Rattle.model.specs.Answers.{Answer, outcomeOf, releasedOf}
 use Rattle.model.specs.Acts.{own, refer, setVector}
 use Rattle.model.specs.declared.sem.SemaphoreCall.the-variants.{Signal as signal, Acquire as acquire}
-use Rattle.model.specs.declared.dtq.QueueCall.the-variants.{Send as send, Receive as receive}
+use Rattle.model.specs.declared.dtq.QueueCall.the-variants.{Send as send, Receive as receive, ForcedSend as forcedSend}
 use Rattle.model.specs.Calls.{Call, call, onSemaphore, onQueue}
 use Rattle.model.specs.History.{History}
 use Rattle.model.specs.declared.Outcome.{Outcome}
@@ -33,7 +33,7 @@ numbersAt ws at =
       vector = record { normal1 = getD ws (at + 4) 0; normal2 = getD ws (at + 5) 0; management = getD ws (at + 6) 0; reference = getD ws (at + 7) 0 };
     }
 
--- what numbers can mean, in document 01's order of the calls
+-- what numbers can mean, in document 01's order of the calls; then what requests added
 abbrev pub meanings : Numbers → List Call
 meanings q =
     call (q .caller) (onSemaphore (q .object) (own signal))
@@ -47,6 +47,7 @@ meanings q =
     ∷ call (q .caller) (onQueue (q .object) (own (receive Forever)))
     ∷ call (q .caller) (onQueue (q .object) refer)
     ∷ call (q .caller) (onQueue (q .object) (setVector (q .vector)))
+    ∷ call (q .caller) (onQueue (q .object) (own (forcedSend (q .word))))
     ∷ []
 
 -- the n-th of a list, counted from 1

@@ -11,7 +11,7 @@ use Rattle.model.specs.State.{Vector}
 use Rattle.model.specs.Answers.{Answer, releasedOf}
 use Rattle.model.specs.Acts.{own, refer, setVector}
 use Rattle.model.specs.declared.sem.SemaphoreCall.the-variants.{Signal as signal, Acquire as acquire}
-use Rattle.model.specs.declared.dtq.QueueCall.the-variants.{Send as send, Receive as receive}
+use Rattle.model.specs.declared.dtq.QueueCall.the-variants.{Send as send, Receive as receive, ForcedSend as forcedSend}
 use Rattle.model.specs.declared.Patience.the-variants.{Polling, Forever}
 use Rattle.model.specs.Calls.{Op, Call, onSemaphore, onQueue}
 use Rattle.batch.specs.declared.numbers.Numbers.{Numbers}
@@ -22,7 +22,7 @@ row f t n w v = record { function = f; caller = t; object = n; word = w; vector 
 
 -- where a call has no word, any word w may stand, and where it has no vector, any vector v: they say nothing
 module _ (w : ℕ) (v : Vector) where
-  -- a function for each call, in document 01's order
+  -- a function for each call, in document 01's order; then what requests added
   abbrev pub numbersBy : ℤ → Op → Numbers
   numbersBy t (onSemaphore n (own signal)) = row 1 t n w v
   numbersBy t (onSemaphore n (own (acquire Polling))) = row 2 t n w v
@@ -35,6 +35,7 @@ module _ (w : ℕ) (v : Vector) where
   numbersBy t (onQueue n (own (receive Forever))) = row 9 t n w v
   numbersBy t (onQueue n refer) = row 10 t n w v
   numbersBy t (onQueue n (setVector x)) = row 11 t n w x
+  numbersBy t (onQueue n (own (forcedSend x))) = row 12 t n x v
 
   abbrev pub numbersOf : Call → Numbers
   numbersOf c = numbersBy (c .caller) (c .op)

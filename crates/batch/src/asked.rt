@@ -12,7 +12,7 @@ use model::dtq::QueueRequest;
 use model::sem::SemaphoreCall;
 use model::sem::SemaphoreRequest;
 
-// Functions, in document 01's order.
+// Functions, in document 01's order; then what requests added.
 pub const SIG_SEM: u32 = 1;
 
 pub const POL_SEM: u32 = 2;
@@ -34,6 +34,8 @@ pub const RCV_DTQ: u32 = 9;
 pub const REF_DTQ: u32 = 10;
 
 pub const SAC_DTQ: u32 = 11;
+
+pub const FSND_DTQ: u32 = 12;
 
 pub enum Asked {
     // No call: another function.
@@ -91,6 +93,7 @@ pub(crate) fn request_of(numbers: Numbers) -> Asked
         ),
         REF_DTQ => of_queue(object, QueueRequest::Refer),
         SAC_DTQ => of_queue(object, QueueRequest::SetVector(vector)),
+        FSND_DTQ => of_queue(object, QueueRequest::Own(QueueCall::ForcedSend(word))),
         _ => Asked::Nothing,
     }
 }

@@ -1,7 +1,9 @@
-// The lists: runs S and Q of document 01, what refers tell, what is no call, numbers of 2^16 and more, answers without room.
+// The lists: runs S and Q of document 01, what refers tell, what is no call, numbers of 2^16 and more, forced sends
+// (request T-05), answers without room.
 use crate::list::List;
 use crate::run::ANSWERS;
 use crate::run::show;
+use batch::asked::FSND_DTQ;
 use batch::asked::POL_SEM;
 use batch::asked::PRCV_DTQ;
 use batch::asked::PSND_DTQ;
@@ -68,7 +70,7 @@ pub fn no_calls() {
     let mut list = List::EMPTY;
     list = list.with(0, 1, 1, 0);
     list = list.with(POL_SEM, 1, 1, 0);
-    list = list.with(12, 1, 1, 0);
+    list = list.with(13, 1, 1, 0);
     list = list.with(POL_SEM, 1, 1, 0);
     list = list.with(u32::MAX, 1, 1, 0);
     list = list.with(POL_SEM, 0, 1, 0);
@@ -145,6 +147,24 @@ pub fn large_patterns() {
     list = list.with(REF_DTQ, 1, 1, 0);
     list = list.with(REF_DTQ, 2, 1, 0);
     show(b"\n\nLarge patterns", list, ANSWERS);
+}
+
+// Into room, into a full buffer, to a waiting receiver; denied, and on a queue of capacity 0.
+pub fn forced_sends() {
+    let mut list = List::EMPTY;
+    list = list.with(FSND_DTQ, 1, 1, 900);
+    list = list.with(FSND_DTQ, 1, 1, 901);
+    list = list.with(FSND_DTQ, 1, 1, 902);
+    list = list.with(PRCV_DTQ, 4, 1, 0);
+    list = list.with(PRCV_DTQ, 4, 1, 0);
+    list = list.with(RCV_DTQ, 4, 1, 0);
+    list = list.with(FSND_DTQ, 3, 1, 903);
+    list = list.with(FSND_DTQ, 2, 1, 904);
+    list = list.with(FSND_DTQ, 1, 2, 905);
+    list = list.with(RCV_DTQ, 4, 2, 0);
+    list = list.with(FSND_DTQ, 1, 2, 906);
+    list = list.with(PSND_DTQ, 1, 2, 907);
+    show(b"\n\nForced sends", list, ANSWERS);
 }
 
 // Room for one answer and some words more.

@@ -13,6 +13,7 @@ fn main() {
     lists::large_words();
     lists::large_numbers();
     lists::large_patterns();
+    lists::forced_sends();
     lists::short_answers();
     text(b"\n");
 }

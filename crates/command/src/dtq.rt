@@ -43,6 +43,9 @@ pub fn named(word: &[u8]) -> Command {
     if same(word, b"snd_dtq") {
         return send(Patience::Forever);
     }
+    if same(word, b"fsnd_dtq") {
+        return asked(QueueRequest::Own(QueueCall::ForcedSend(0)));
+    }
     if same(word, b"prcv_dtq") {
         return receive(Patience::Polling);
     }
@@ -65,6 +68,7 @@ fn call_shape(call: QueueCall) -> Shape
     match call {
         QueueCall::Send(_, _) => Shape::call(1),
         QueueCall::Receive(_) => Shape::call(0),
+        QueueCall::ForcedSend(_) => Shape::call(1),
     }
 }
 
@@ -84,6 +88,7 @@ fn call_with(call: QueueCall, numbers: Numbers) -> QueueCall {
     match call {
         QueueCall::Send(patience, _) => QueueCall::Send(patience, numbers.plain(0)),
         QueueCall::Receive(_) => call,
+        QueueCall::ForcedSend(_) => QueueCall::ForcedSend(numbers.plain(0)),
     }
 }
 

@@ -36,6 +36,15 @@ impl Queues {
         queue.len
     }
 
+    // How many words can be buffered.
+    pub(crate) fn capacity(self, object: usize) -> usize
+        requires { ⌜ Held self × (object < length (queuesOf self)) ⌝ }
+        ensures { λ r. ⌜ r ≡ queueIn (queuesOf self) (suc object) .capacity ⌝ }
+    {
+        let queue = self.records[object];
+        queue.capacity
+    }
+
     // Whether one word more can be buffered.
     pub(crate) fn has_room(self, object: usize) -> bool
         requires { ⌜ Held self × (object < length (queuesOf self)) ⌝ }

@@ -1,10 +1,10 @@
-// What can be asked of a data queue, and what that does once its checks are passed (document 01, "Calls on an open gateway").
+// What can be asked of a data queue, and what that does once its checks are passed (document 01, "Calls on an open gateway"; forced send: request T-05).
 ghost use mathlib.Core.Path.{_≡_};
 ghost use Prim.Native.Nat.{suc, _<_};
 ghost use lib.ListN.{length};
 ghost use Rattle.model.specs.Acts.{operationOf};
 ghost use Rattle.model.specs.Answers as Model;
-ghost use Rattle.model.specs.Queues.{actOf, operation, does, onSend, onReceive, told};
+ghost use Rattle.model.specs.Queues.{actOf, operation, does, onSend, onReceive, onForce, told};
 ghost use Rattle.tasks.specs.View.{domainsOf, waitsOf};
 ghost use Rattle.tasks.specs.Held as TasksHeld;
 ghost use Rattle.tasks.specs.Held.{Passed};
@@ -13,6 +13,7 @@ ghost use Rattle.dataqueue.specs.Held.{Held};
 ghost use Rattle.dataqueue.specs.Effects.{acted, effectAs, refusedWith, doneWith, endedWith};
 use crate::state::Queues;
 use access::vector::Operation;
+use itron::code::E_ILUSE;
 use itron::code::E_OK;
 use model::Info;
 use model::Patience;
@@ -127,6 +128,25 @@ pub(crate) fn receive(
     }
 }
 
+// Forced send. It takes no task: it never waits.
+pub(crate) fn force(tasks: Tasks, queues: Queues, object: usize, word: u32) -> Effect
+    requires { ⌜ TasksHeld.Held tasks × Held queues × (object < length (queuesOf queues)) ⌝ }
+    ensures { λ r. ⌜ r ≡ effectAs (domainsOf tasks) (onForce (waitsOf tasks) (queuesOf queues) (suc object) word) ⌝ }
+{
+    if queues.capacity(object) == 0 {
+        return refused(tasks, queues, E_ILUSE);
+    }
+    match tasks.first(Side::Receiving, object) {
+        First::Waiter(taker, _) => ended(tasks.wake(taker, 0, word), queues),
+        First::Nobody => {
+            if queues.has_room(object) {
+                return done(tasks, queues.push(object, word), 0);
+            }
+            done(tasks, queues.refill(object, word), 0)
+        },
+    }
+}
+
 // A data queue's own calls.
 pub(crate) fn own(
     tasks: Tasks,
@@ -141,6 +161,7 @@ pub(crate) fn own(
     match call {
         QueueCall::Send(patience, word) => send(tasks, queues, task, object, patience, word),
         QueueCall::Receive(patience) => receive(tasks, queues, task, object, patience),
+        QueueCall::ForcedSend(word) => force(tasks, queues, object, word),
     }
 }
 
@@ -174,6 +195,7 @@ pub fn operation(request: QueueRequest) -> Operation
         QueueRequest::Own(call) => match call {
             QueueCall::Send(_, _) => Operation::Normal1,
             QueueCall::Receive(_) => Operation::Normal2,
+            QueueCall::ForcedSend(_) => Operation::Normal1,
         },
         QueueRequest::Refer => Operation::Reference,
         QueueRequest::SetVector(_) => Operation::Management,

@@ -10,7 +10,7 @@ use lib.ListN.{length}
 use borrow.Author.Tests.{ltb-true, leb-true, ne-eqb}
 use Rattle.access.specs.Domains.{ordinalOf}
 use Rattle.access.specs.declared.vector.Choice.{Choice}
-use Rattle.itron.specs.Codes.{Err, eRsatr, ePar, eId, eCtx, eMacv, eOacv, eNomem, eNoid, eObj, eNoexs, eQovr, eTmout, numberOf, okNumber}
+use Rattle.itron.specs.Codes.{Err, eRsatr, ePar, eId, eCtx, eMacv, eOacv, eIluse, eNomem, eNoid, eObj, eNoexs, eQovr, eTmout, numberOf, okNumber}
 use Rattle.itron.specs.Limits.{maxDomains, maxTasks, maxWords, minUnit}
 use Rattle.model.specs.State as Model
 use Rattle.model.specs.Answers.{resultOf, refuseIf}
@@ -39,6 +39,7 @@ not-ok eId h = let z : _≡_ {A = ℕ} 0 1 = cc in omega arith
 not-ok eCtx h = let z : _≡_ {A = ℕ} 0 1 = cc in omega arith
 not-ok eMacv h = let z : _≡_ {A = ℕ} 0 1 = cc in omega arith
 not-ok eOacv h = let z : _≡_ {A = ℕ} 0 1 = cc in omega arith
+not-ok eIluse h = let z : _≡_ {A = ℕ} 0 1 = cc in omega arith
 not-ok eNomem h = let z : _≡_ {A = ℕ} 0 1 = cc in omega arith
 not-ok eNoid h = let z : _≡_ {A = ℕ} 0 1 = cc in omega arith
 not-ok eObj h = let z : _≡_ {A = ℕ} 0 1 = cc in omega arith

@@ -1,4 +1,4 @@
-// Data queues: their entry, the calls on them (both sends, both receives, refer and set-vector), and what a dump shows of one.
+// Data queues: their entry, the calls on them (both sends, forced send, both receives, refer and set-vector), and what a dump shows of one.
 ghost use mathlib.Core.Path.{_≡_};
 ghost use lib.ListN.{getD};
 ghost use Rattle.model.specs.State.{queueAt};
@@ -8,7 +8,7 @@ ghost use Rattle.model.specs.Queues.{actOf, room};
 ghost use Rattle.model.specs.Table.{checkEntry, enter, queue};
 ghost use Rattle.model.specs.Calls.{call, onQueue};
 ghost use Rattle.model.specs.declared.Patience.the-variants.{Polling, Forever};
-ghost use Rattle.model.specs.declared.dtq.QueueCall.the-variants.{Send as send, Receive as receive};
+ghost use Rattle.model.specs.declared.dtq.QueueCall.the-variants.{Send as send, Receive as receive, ForcedSend as forcedSend};
 ghost use Rattle.dataqueue.specs.Effects.{acted};
 ghost use Rattle.dataqueue.specs.View.{infoOf};
 ghost use Rattle.kernel.specs.View.{viewOf};
@@ -118,6 +118,18 @@ impl State {
             caller,
             id,
             QueueRequest::Own(QueueCall::Send(Patience::Forever, word)),
+        ))
+    }
+
+    // Forced send.
+    pub fn fsnd_dtq(mut self, caller: i32, id: i32, word: u32) -> Answer
+        requires { ⌜ Valid self ⌝ }
+        ensures { λ r. ⌜ Does self (call caller (onQueue id (own (forcedSend word)))) r ⌝ }
+    {
+        self.with_queues(self.queue_effect(
+            caller,
+            id,
+            QueueRequest::Own(QueueCall::ForcedSend(word)),
         ))
     }
 

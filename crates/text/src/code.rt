@@ -1,10 +1,11 @@
-// Result codes by their names (document 01, "Codes a desk clerk sees").
+// Result codes by their names (document 01, "Codes a desk clerk sees"; E_ILUSE: request T-05).
 ghost use mathlib.Core.Path.{_≡_};
 ghost use lib.ListN.{length};
 ghost use Rattle.io.specs.Counts.{Counts};
 ghost use Rattle.text.specs.Names.{longestName};
 use itron::code::E_CTX;
 use itron::code::E_ID;
+use itron::code::E_ILUSE;
 use itron::code::E_MACV;
 use itron::code::E_NOEXS;
 use itron::code::E_NOID;
@@ -49,6 +50,7 @@ pub fn put_name(out: &mut [u8; LONGEST_NAME], number: i32) -> usize
         E_CTX => put(out, b"E_CTX"),
         E_MACV => put(out, b"E_MACV"),
         E_OACV => put(out, b"E_OACV"),
+        E_ILUSE => put(out, b"E_ILUSE"),
         E_NOMEM => put(out, b"E_NOMEM"),
         E_NOID => put(out, b"E_NOID"),
         E_OBJ => put(out, b"E_OBJ"),

@@ -53,6 +53,9 @@ of-queue-requires-5 c κs = search needs
 of-queue-requires-6 : tie.Need-of-queue-requires-6
 of-queue-requires-6 c κs = search needs
 
+of-queue-requires-7 : tie.Need-of-queue-requires-7
+of-queue-requires-7 c κs = search needs
+
 returns : tie.Need-returns
 returns c = let x = c .before in ap (meaningOf (x .before .before .before .args .numbers .caller)) (c .of-semaphore .ensures) ∙ meaning (x .before) 1 (x .match .keys1)
 
@@ -87,7 +90,10 @@ returns-11 : tie.Need-returns-11
 returns-11 c = let x = c .before in ap (meaningOf (x .before .before .before .args .numbers .caller)) (c .of-queue6 .ensures) ∙ meaning (x .before) 11 (x .match .keys11)
 
 returns-12 : tie.Need-returns-12
-returns-12 c = meant-nothing (c .before .before .before .args .numbers) (c .match .rest)
+returns-12 c = let x = c .before in ap (meaningOf (x .before .before .before .args .numbers .caller)) (c .of-queue7 .ensures) ∙ meaning (x .before) 12 (x .match .keys12)
+
+returns-13 : tie.Need-returns-13
+returns-13 c = meant-nothing (c .before .before .before .args .numbers) (c .match .rest)
 
 pub request-of-spec : {M : Type 1} → statement M
 request-of-spec =
@@ -104,6 +110,7 @@ request-of-spec =
     of-queue-requires-4
     of-queue-requires-5
     of-queue-requires-6
+    of-queue-requires-7
     returns
     returns-2
     returns-3
@@ -115,4 +122,5 @@ request-of-spec =
     returns-9
     returns-10
     returns-11
-    returns-12)
+    returns-12
+    returns-13)

@@ -58,7 +58,7 @@ returns c =
     let y = p .before .before in
     let b = y .before .before .before in
     let a = b .args in
-    c .ended .ensures ∙ receive-passes (b .pre .0) (b .pre .1) (a .task) (a .object) (a .patience) (sym (y .before .buffered .ensures) ∙ y .if1 .taken) (first-at p) _ (w .wake .ensures)
+    c .ended .ensures ∙ receive-passes (b .pre .0) (b .pre .1) (a .object) (a .task) (a .patience) (sym (y .before .buffered .ensures) ∙ y .if1 .taken) (first-at p) _ (w .wake .ensures)
 
 returns-2 : tie.Need-returns-2
 returns-2 c =
@@ -69,7 +69,7 @@ returns-2 c =
     let b = f .before in
     let a = b .args in
     c .ended2 .ensures
-    ∙ receive-waits (b .pre .0) (b .pre .1) (a .task) (a .object) (a .patience) (sym (y .before .buffered .ensures) ∙ y .if1 .taken)
+    ∙ receive-waits (b .pre .0) (b .pre .1) (a .object) (a .task) (a .patience) (sym (y .before .buffered .ensures) ∙ y .if1 .taken)
     (no-first (waitersIn (waitsOf (a .tasks)) (place Sending (suc (a .object)))) (f .first .result) (f .first .ensures) (m .match .keys2)) _ (o .or-wait .ensures)
 
 -- a word in the buffer
@@ -117,7 +117,7 @@ returns-3 c =
     let a = b .args in
     let f = p .sender2 .given .0 .0 in
     c .ended3 .ensures
-    ∙ receive-refills (b .pre .0) (b .pre .1) (a .task) (a .object) (a .patience) (some (o .before)) (first-at-2 p)
+    ∙ receive-refills (b .pre .0) (b .pre .1) (a .object) (a .task) (a .patience) (some (o .before)) (first-at-2 p)
     _ (w .wake2 .ensures ∙ ap (λ (n : ℕ). wokenOf (domainsOf (a .tasks)) (waitsOf (a .tasks)) f n 0) (o .oldest .ensures)) _ (l .refill .ensures)
 
 returns-4 : tie.Need-returns-4
@@ -129,7 +129,7 @@ returns-4 c =
     let a = b .args in
     let q = c .before .pop .result in
     c .done .ensures ∙ ap (doneWith (a .tasks) q) (o .oldest .ensures)
-    ∙ receives (b .pre .0) (b .pre .1) (a .task) (a .object) (a .patience) (some (o .before))
+    ∙ receives (b .pre .0) (b .pre .1) (a .object) (a .task) (a .patience) (some (o .before))
     (no-first (waitersIn (waitsOf (a .tasks)) (place Sending (suc (a .object)))) (f .first .result) (f .first .ensures) (m .match2 .keys2)) q (c .before .pop .ensures)
 
 pub receive-spec : {M : Type 1} → statement M

@@ -70,7 +70,7 @@ returns c =
     let w = c .before in
     let b = w .before .before .before .before .before in
     let a = b .args in
-    c .ended .ensures ∙ send-wakes (b .pre .0) (b .pre .1) (a .task) (a .object) (a .patience) (a .word) (first-at (w .before .before)) _ (w .wake .ensures)
+    c .ended .ensures ∙ send-wakes (b .pre .0) (b .pre .1) (a .object) (a .task) (a .patience) (a .word) (first-at (w .before .before)) _ (w .wake .ensures)
 
 returns-2 : tie.Need-returns-2
 returns-2 c =
@@ -78,7 +78,7 @@ returns-2 c =
     let h = u .before .before in
     let b = h .before .before .before .before in
     let a = b .args in
-    c .done .ensures ∙ send-stores (b .pre .0) (b .pre .1) (a .task) (a .object) (a .patience) (a .word) (nobody (h .before)) (sym (h .has-room .ensures) ∙ u .before .if1 .taken) _ (u .push .ensures)
+    c .done .ensures ∙ send-stores (b .pre .0) (b .pre .1) (a .object) (a .task) (a .patience) (a .word) (nobody (h .before)) (sym (h .has-room .ensures) ∙ u .before .if1 .taken) _ (u .push .ensures)
 
 returns-3 : tie.Need-returns-3
 returns-3 c =
@@ -86,7 +86,7 @@ returns-3 c =
     let h = o .before .before in
     let b = h .before .before .before .before in
     let a = b .args in
-    c .ended2 .ensures ∙ send-waits (b .pre .0) (b .pre .1) (a .task) (a .object) (a .patience) (a .word) (nobody (h .before)) (sym (h .has-room .ensures) ∙ o .before .if1 .left) _ (o .or-wait .ensures)
+    c .ended2 .ensures ∙ send-waits (b .pre .0) (b .pre .1) (a .object) (a .task) (a .patience) (a .word) (nobody (h .before)) (sym (h .has-room .ensures) ∙ o .before .if1 .left) _ (o .or-wait .ensures)
 
 pub send-spec : {M : Type 1} → statement M
 send-spec =
