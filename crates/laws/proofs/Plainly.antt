@@ -12,7 +12,7 @@ use lib.Seq.{drop-length}
 use Rattle.access.specs.Patterns.{admitted}
 use Rattle.access.proofs.Laws.{kernel-always, zeros-kernel-only}
 use Rattle.itron.specs.Codes.{Code, ok, waiting}
-use Rattle.model.specs.State.{Place, Waiter, place, domainAt, no}
+use Rattle.model.specs.State.{Place, Waiter, place, waiter, queueAt, domainAt, no}
 use Rattle.model.specs.Answers.{outcomeOf}
 use Rattle.model.specs.Waits.{waitersAt}
 use Rattle.model.specs.Acts.{Act, own}
@@ -23,16 +23,16 @@ use Rattle.model.specs.declared.sem.SemaphoreCall.{SemaphoreCall}
 use Rattle.model.specs.declared.sem.SemaphoreCall.the-variants.{Signal as signal}
 use Rattle.model.specs.declared.dtq.QueueCall.{QueueCall}
 use Rattle.model.specs.declared.dtq.QueueCall.the-variants.{Send as send, Receive as receive, ForcedSend as forcedSend}
-use Rattle.model.specs.Calls.{onSemaphore, onQueue, Call, call, step}
+use Rattle.model.specs.Calls.{Op, onSemaphore, onQueue, Call, call, step}
 use Rattle.model.specs.Lists.{Some, total}
-use Rattle.model.specs.History.{event, after, history}
+use Rattle.model.specs.History.{event, after, history, without}
 use Rattle.model.specs.Demand3.{Demand3}
 use Rattle.model.specs.Turns.{countIf, countAt, serves}
 use Rattle.model.specs.Denials.{Ready, InRange, There, patternSince}
 use Rattle.model.proofs.Lists.{no-both}
 use Rattle.model.proofs.WaitQueues as WaitQueues
 use Rattle.model.proofs.Numbers.{apart}
-use Rattle.model.proofs.Increments.{held, did, word-waits, word-taken}
+use Rattle.model.proofs.Increments.{did, More, word-waits, word-taken, sender-joins}
 use Rattle.kernel.specs.declared.state.State.{State}
 use Rattle.kernel.specs.declared.state.Answer.{Answer}
 use Rattle.kernel.specs.View.{viewOf}
@@ -45,37 +45,53 @@ pub alike : {s₀ s s′ : State} {cs : List Call} {l l′ : List Said} → Whol
 alike w x = (w .state ∙ sym (x .state), w .answers ∙ sym (x .answers))
 
 -- ---- no word is lost, by what the program answered: after the calls cs the state s and the answers l, with one call more s′ and the answer x too
-module _ (s₀ s s′ : State) (cs : List Call) (l : List Said) (x : Said) (t n : ℤ) (p : Patience) where
+module _ (s₀ s s′ : State) (cs : List Call) (l : List Said) (x : Said) (t n : ℤ) where
   -- the answer's code is the one that the rules give
   answer-is : (c : Call) → Whole s₀ s′ (c ∷ cs) (x ∷ l) → x ≡ saidIn (event (after (viewOf s₀) cs) c)
   unfolding history
   answer-is c w = let e = w .answers in cc
 
-  -- a send that waits: its word is held, as the last
-  pub waiting-word-held : (w : ℕ) → Whole s₀ s cs l → Whole s₀ s′ (call t (onQueue n (own (send p w))) ∷ cs) (x ∷ l) → x .reply .outcome ≡ Outcome.Waiting
-      → held (viewOf s′) (no n) ≡ held (viewOf s) (no n) ++ (w ∷ [])
-  unfolding history
-  waiting-word-held w d d′ o =
+  -- demand 3 of the calls before and with this one, whose code is k
+  abbrev Both : Call → Code → Type 0
+  Both c k =
       let m = viewOf s₀ in
-      let c = call t (onQueue n (own (send p w))) in
       let a = step (after m cs) c .answer in
-      let k : a .code ≡ waiting = apart (a .code) waiting (sym (ap (λ (y : Said). y .reply .outcome) (answer-is c d′)) ∙ o) in
-      word-waits m (viewOf s) (viewOf s′) (after m cs) (history m cs) t (a .word) (a .info) n p w (a .released)
-      (d .demand, subst (λ (k : Code). Demand3 m (did m m m (after m cs) (history m cs) t (a .word) (a .info) (c .op) k (a .released) ∷ history m cs) (viewOf s′)) k (d′ .demand))
+      More m (viewOf s) (viewOf s′) (after m cs) (history m cs) t (a .word) (a .info) (c .op) k (a .released)
 
-  -- a receive answered E_OK (0): its word is the first that was held, and is held no longer
-  pub first-word-given : Whole s₀ s cs l → Whole s₀ s′ (call t (onQueue n (own (receive p))) ∷ cs) (x ∷ l) → x .reply .outcome ≡ Outcome.Code (pos 0)
-      → x .reply .word ∷ held (viewOf s′) (no n) ≡ held (viewOf s) (no n)
+  both : (op : Op) (k : Code) → Whole s₀ s cs l → Whole s₀ s′ (call t op ∷ cs) (x ∷ l) → x .reply .outcome ≡ outcomeOf k → Both (call t op) k
   unfolding history
-  first-word-given d d′ o =
+  both op k d d′ o =
       let m = viewOf s₀ in
-      let c = call t (onQueue n (own (receive p))) in
+      let c = call t op in
       let a = step (after m cs) c .answer in
-      let z = answer-is c d′ in
-      let k : a .code ≡ ok = apart (a .code) ok (sym (ap (λ (y : Said). y .reply .outcome) z) ∙ o) in
-      ap (λ (y : Said). y .reply .word ∷ held (viewOf s′) (no n)) z
-      ∙ word-taken m (viewOf s) (viewOf s′) (after m cs) (history m cs) t (a .word) (a .info) n p (a .released)
-      (d .demand, subst (λ (k : Code). Demand3 m (did m m m (after m cs) (history m cs) t (a .word) (a .info) (c .op) k (a .released) ∷ history m cs) (viewOf s′)) k (d′ .demand))
+      let e : a .code ≡ k = apart (a .code) k (sym (ap (λ (y : Said). y .reply .outcome) (answer-is c d′)) ∙ o) in
+      (d .demand, subst (λ (k : Code). Demand3 m (did m m m (after m cs) (history m cs) t (a .word) (a .info) op k (a .released) ∷ history m cs) (viewOf s′)) e (d′ .demand))
+
+  -- a send that waits: its task waits with its word, the last of all, and the buffer stays
+  pub waiting-word-held : (p : Patience) (w : ℕ) → Whole s₀ s cs l → Whole s₀ s′ (call t (onQueue n (own (send p w))) ∷ cs) (x ∷ l) → x .reply .outcome ≡ Outcome.Waiting
+      → ((before : List Waiter) × (viewOf s′ .waits ≡ before ++ (waiter (no t) sending (no n) w ∷ []))) × (queueAt (viewOf s′) (no n) .buffer ≡ queueAt (viewOf s) (no n) .buffer)
+  waiting-word-held p w d d′ o =
+      let m = viewOf s₀ in
+      let c = onQueue n (own (send p w)) in
+      let a = step (after m cs) (call t c) .answer in
+      let b = both c waiting d d′ o in
+      (
+        (without (a .released) (viewOf s .waits), sender-joins m (viewOf s) (viewOf s′) (after m cs) (history m cs) t (a .word) (a .info) n p w (a .released) b),
+        word-waits m (viewOf s) (viewOf s′) (after m cs) (history m cs) t (a .word) (a .info) n p w (a .released) b,
+      )
+
+  -- a receive answered E_OK (0): its word is the first that was buffered, and the others move up; where none was, a sender's
+  pub first-word-given : (p : Patience) → Whole s₀ s cs l → Whole s₀ s′ (call t (onQueue n (own (receive p))) ∷ cs) (x ∷ l) → x .reply .outcome ≡ Outcome.Code (pos 0)
+      → (behind : List ℕ) × (x .reply .word ∷ queueAt (viewOf s′) (no n) .buffer ≡ queueAt (viewOf s) (no n) .buffer ++ behind)
+  first-word-given p d d′ o =
+      let m = viewOf s₀ in
+      let c = onQueue n (own (receive p)) in
+      let a = step (after m cs) (call t c) .answer in
+      (
+        _,
+        ap (λ (y : Said). y .reply .word ∷ queueAt (viewOf s′) (no n) .buffer) (answer-is (call t c) d′)
+        ∙ word-taken m (viewOf s) (viewOf s′) (after m cs) (history m cs) t (a .word) (a .info) n p (a .released) (both c ok d d′ o),
+      )
 
 -- ---- taking turns: e waits at a place with the tasks `ahead` before it, and the calls cs follow
 module _ (s₁ : State) (e : Waiter) (ahead : List Waiter) (cs : List Call) (s : State) (l : List Said) (h : Ran s₁ cs s l) where

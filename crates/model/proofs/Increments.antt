@@ -243,8 +243,8 @@ module _ (s₀ s s′ found : State) (h : History) (t : ℤ) (v : ℕ) (info : I
   stand op k rs m = m .1 .waitersAre ∙ ap (λ (l : List Waiter). without rs l ++ joined (did op k rs)) (sym (m .0 .waitersAre))
 
   -- a call that answers "waiting" puts its task last, with the place and the word of that call; any other puts nobody there
-  pub sender-joins : (n : ℤ) (p : Patience) (w : ℕ) → More (onQueue n (own (send p w))) waiting [] → s′ .waits ≡ s .waits ++ (waiter (no t) sending (no n) w ∷ [])
-  sender-joins n p w m = stand _ waiting [] m
+  pub sender-joins : (n : ℤ) (p : Patience) (w : ℕ) (rs : List Released) → More (onQueue n (own (send p w))) waiting rs → s′ .waits ≡ without rs (s .waits) ++ (waiter (no t) sending (no n) w ∷ [])
+  sender-joins n p w rs m = stand _ waiting rs m
 
   pub receiver-joins : (n : ℤ) (p : Patience) → More (onQueue n (own (receive p))) waiting [] → s′ .waits ≡ s .waits ++ (waiter (no t) receiving (no n) 0 ∷ [])
   receiver-joins n p m = stand _ waiting [] m
