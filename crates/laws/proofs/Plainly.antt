@@ -74,8 +74,7 @@ module _ (s₀ s s′ : State) (cs : List Call) (l : List Said) (x : Said) (t n 
       let m = viewOf s₀ in
       let c = onQueue n (own (send p w)) in
       let a = step (after m cs) (call t c) .answer in
-      let b = both c waiting d d′ o in
-      (
+      let b = both c waiting d d′ o in (
         (without (a .released) (viewOf s .waits), sender-joins m (viewOf s) (viewOf s′) (after m cs) (history m cs) t (a .word) (a .info) n p w (a .released) b),
         word-waits m (viewOf s) (viewOf s′) (after m cs) (history m cs) t (a .word) (a .info) n p w (a .released) b,
       )
@@ -86,11 +85,10 @@ module _ (s₀ s s′ : State) (cs : List Call) (l : List Said) (x : Said) (t n 
   first-word-given p d d′ o =
       let m = viewOf s₀ in
       let c = onQueue n (own (receive p)) in
-      let a = step (after m cs) (call t c) .answer in
-      (
+      let a = step (after m cs) (call t c) .answer in (
         _,
         ap (λ (y : Said). y .reply .word ∷ queueAt (viewOf s′) (no n) .buffer) (answer-is (call t c) d′)
-        ∙ word-taken m (viewOf s) (viewOf s′) (after m cs) (history m cs) t (a .word) (a .info) n p (a .released) (both c ok d d′ o),
+            ∙ word-taken m (viewOf s) (viewOf s′) (after m cs) (history m cs) t (a .word) (a .info) n p (a .released) (both c ok d d′ o),
       )
 
 -- ---- taking turns: e waits at a place with the tasks `ahead` before it, and the calls cs follow

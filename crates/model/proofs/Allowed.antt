@@ -7,6 +7,7 @@ use mathlib.Core.Option.{Option, some}
 use Prim.Native.Nat.{ℕ}
 use lib.Dec.{eqb, T}
 use lib.IntN.{ℤ}
+use lib.ListN.{length}
 use Rattle.access.specs.Patterns.{admitted}
 use Rattle.itron.specs.Codes.{Code, ok, waiting, error}
 use Rattle.model.specs.Lists.{All, Some, Each}
@@ -18,7 +19,8 @@ use Rattle.model.specs.Semaphores.{signal, acquire}
 use Rattle.model.specs.Queues.{QueueCall, send, receive, forcedSend}
 use Rattle.model.specs.Calls.{Op, onSemaphore, onQueue, call}
 use Rattle.model.specs.History.{Event, History, Made, seenBy, askedIf, ofAsked, vectorSince, pending}
-use Rattle.model.specs.QueueClaims.{askedOf, byQueue, sentIn, began, IsReceive, mayReceive, SentAllowed, TakenAllowed, Came}
+use Rattle.model.specs.Sends.{Sent, sendIn}
+use Rattle.model.specs.QueueClaims.{askedOf, byQueue, began, IsReceive, mayReceive, SentAllowed, TakenAllowed, Came}
 use Rattle.model.specs.Releases.{servedBy, WaitsAt, WaitsNot, EndsWait, ReleasesWaiters}
 use Rattle.model.specs.Demand3.{Demand3}
 use Rattle.model.proofs.Lists.{eq-of, eqb-same, eqb-no}
@@ -112,7 +114,7 @@ module _ (s₀ s found : State) (later h : History) (t n : ℤ) (a : Answer) whe
       (subst (λ (o : Option (Act QueueCall)). SentAllowed (domainAt s₀) (queueAt s₀ (no n) .vector) (seen o (a .code)) (byQueue (no n) h)) (here (own x))
       (each-seen (no n) (SentAllowed (domainAt s₀) (queueAt s₀ (no n) .vector)) later _ h (d .queues (no n) .sendersAllowed)))
     where
-      one : (x : QueueCall) → IsSend x → All (λ (w : ℕ). T (admitted (vectorThen .normal1) (domainAt s₀ (no t)))) (sentIn x) → admitted (vectorThen .normal1) (domainAt s₀ (no t)) ≡ true
+      one : (x : QueueCall) → IsSend x → All (λ (y : Sent). T (admitted (vectorThen .normal1) (domainAt s₀ (no t)))) (sendIn (length (byQueue (no n) h)) (no t) x) → admitted (vectorThen .normal1) (domainAt s₀ (no t)) ≡ true
       one (send p w) i z = is-true _ (z .0)
       one (receive p) i z = absurd i
       one (forcedSend w) i z = is-true _ (z .0)

@@ -11,13 +11,15 @@ use lib.ListN.{length, take}
 use borrow.Author.Tests.{ltb-true, ltb-false}
 use Rattle.itron.specs.Codes.{Code, ok, waiting, error}
 use Rattle.model.specs.Lists.{All, keep, consIf, words, gathered}
-use Rattle.model.specs.State.{Queue, Waiter}
+use Rattle.model.specs.State.{Queue, Waiter, State, queueAt}
 use Rattle.model.specs.Answers.{whenOk, whenWaiting, whenAccepted}
 use Rattle.model.specs.Acts.{Act, own, refer, setVector}
 use Rattle.model.specs.Queues.{QueueCall, send, receive, forcedSend}
-use Rattle.model.specs.History.{Made, ofAsked}
+use Rattle.model.specs.Waits.{senders}
+use Rattle.model.specs.History.{History, Made, ofAsked}
 use Rattle.model.specs.Sends.{Sent, sendIn, sendOf, wordOf, unforced, times, Ascending, accepts, shown, notShown, waitingSends, withdrawn, entersIn, enters, entered, handed, fullIn, findsFull, buffered, leaves}
-use Rattle.model.specs.QueueClaims.{sentIn, sent, Sender, wordsIn, Carried}
+use Rattle.model.specs.QueueClaims.{byQueue, Sender, wordsIn, Carried}
+use Rattle.model.specs.Demand3.{Demand3}
 use Rattle.model.proofs.Lists.{no-both, eqb-same, eqb-no, map-append, all-keep}
 use Rattle.model.proofs.Sends.{Of, send-of, accepted, accepted-ascends, accepted-once, entered-placed, times-append, all-append, all-weaker, words-of, words-in}
 
@@ -143,6 +145,32 @@ all-unforced : (l : List Sent) → Unforced l → keep unforced l ≡ l
 all-unforced [] f = refl
 all-unforced (x ∷ l) f = ap (λ (b : Bool). consIf (not b) x (keep unforced l)) (f .0) ∙ ap (λ (m : List Sent). x ∷ m) (all-unforced l (f .1))
 
+-- as where no call is a forced send on the queue
+abbrev pub NotForced : Option (Act QueueCall) → Type 0
+NotForced none = Unit
+NotForced (some (own (send p w))) = Unit
+NotForced (some (own (receive p))) = Unit
+NotForced (some (own (forcedSend w))) = ⊥
+NotForced (some refer) = Unit
+NotForced (some (setVector v)) = Unit
+
+not-forced : (h : List (Made QueueCall)) → All (λ (m : Made QueueCall). NotForced (m .asked)) h → Unforced (accepted h)
+not-forced [] f = tt
+not-forced (m ∷ h) f = all-append (λ (x : Sent). x .forced ≡ false) (accepted h) (accepts m h) (not-forced h (f .1)) (go (m .answer .code))
+  where
+    by : (a : Option (Act QueueCall)) → NotForced a → Unforced (ofAsked [] (sendIn (length h) (m .caller)) a)
+    by none n = tt
+    by (some (own (send p w))) n = (refl, tt)
+    by (some (own (receive p))) n = tt
+    by (some (own (forcedSend w))) n = absurd n
+    by (some refer) n = tt
+    by (some (setVector v)) n = tt
+
+    go : (k : Code) → Unforced (whenAccepted [] (sendOf m h) k)
+    go ok = by (m .asked) (f .0)
+    go waiting = by (m .asked) (f .0)
+    go (error e) = tt
+
 -- so none is dropped
 none-full : (c : ℕ) (b : List Sent) (m : Made QueueCall) (h : List (Made QueueCall)) → Unforced (accepts m h) → findsFull c b m ≡ 0
 none-full c b m h f = go (m .answer .code) (m .asked) f
@@ -163,27 +191,9 @@ leaves-handed c (m ∷ h) f =
     let n = none-full c (buffered c h) m h (all-right (λ (x : Sent). x .forced ≡ false) (accepted h) (accepts m h) f) in
     (λ i. leaves-handed c h (all-left (λ (x : Sent). x .forced ≡ false) (accepted h) (accepts m h) f) i ++ (map wordOf (take (n i) (buffered c h)) ++ handed m))
 
--- the words of the accepted sends
-word-sent : (k t : ℕ) (a : Option (Act QueueCall)) → ofAsked [] sentIn a ≡ map wordOf (ofAsked [] (sendIn k t) a)
-word-sent k t none = refl
-word-sent k t (some (own (send p w))) = refl
-word-sent k t (some (own (receive p))) = refl
-word-sent k t (some (own (forcedSend w))) = refl
-word-sent k t (some refer) = refl
-word-sent k t (some (setVector v)) = refl
-
-sent-words : (h : List (Made QueueCall)) → words sent h ≡ map wordOf (accepted h)
-sent-words [] = refl
-sent-words (m ∷ h) = (λ i. sent-words h i ++ go (m .answer .code) (m .asked) i) ∙ sym (map-append wordOf (accepted h) (accepts m h))
-  where
-    go : (k : Code) (a : Option (Act QueueCall)) → whenAccepted [] (ofAsked [] sentIn a) k ≡ map wordOf (whenAccepted [] (ofAsked [] (sendIn (length h) (m .caller)) a) k)
-    go (error e) a = refl
-    go ok a = word-sent (length h) (m .caller) a
-    go waiting a = word-sent (length h) (m .caller) a
-
 -- ---- "the words handed out, then those buffered (oldest first), then those of the waiting senders (first to last), are the words of the accepted sends in call order"
 pub call-order : {domain : ℕ → ℤ} {x : Queue} {h : List (Made QueueCall)} {buffer : List ℕ} {senders : List Waiter} → Carried domain x h buffer senders → Unforced (accepted h) → withdrawn h ≡ []
-    → words handed h ++ (buffer ++ wordsIn senders) ≡ words sent h
+    → words handed h ++ (buffer ++ wordsIn senders) ≡ map wordOf (accepted h)
 call-order {x} {h} {buffer} {senders} d f z =
     sym (append-assoc (words handed h) buffer (wordsIn senders))
     ∙ (λ i. (sym (leaves-handed (x .capacity) h f) i ++ buffer) ++ waits i)
@@ -192,7 +202,6 @@ call-order {x} {h} {buffer} {senders} d f z =
     ∙ words-by-call h (entered h ++ waitingSends h) (all-append (Known h) (entered h) (waitingSends h) (known .0) (known .1))
     ∙ ap (map (λ k. wordAt k h)) (same-calls (entered h ++ waitingSends h) (accepted h) ascends (accepted-ascends h) as-many)
     ∙ sym (words-by-call h (accepted h) (accepted-known h))
-    ∙ sym (sent-words h)
   where
     waits : wordsIn senders ≡ map wordOf (waitingSends h)
     waits = words-of senders ∙ ap (map (λ (y : Sender). y .word)) (d .sendersAre) ∙ sym (words-in (waitingSends h))
@@ -208,3 +217,7 @@ call-order {x} {h} {buffer} {senders} d f z =
 
     as-many : (k : ℕ) → times k (entered h ++ waitingSends h) ≡ times k (accepted h)
     as-many k = omega (arith, times-append k (entered h) (waitingSends h), entered-placed (x .capacity) k h, d .placed k, ap (times k) z, accepted-once k h)
+
+pub conserved : {s₀ s : State} {h : History} → Demand3 s₀ h s → (q : ℕ) → All (λ (m : Made QueueCall). NotForced (m .asked)) (byQueue q h)
+    → words handed (byQueue q h) ++ (queueAt s q .buffer ++ wordsIn (senders s q)) ≡ map wordOf (accepted (byQueue q h))
+conserved {h} d q f = call-order (d .queues q) (not-forced (byQueue q h) f) refl

@@ -20,8 +20,8 @@ use Rattle.model.specs.Acts.{Act, own, refer, setVector, ofOwn}
 use Rattle.model.specs.Rooms.{check, actOn, onRecords, Asks, onObject}
 use Rattle.model.specs.Queues as Queues
 use Rattle.model.specs.Queues.{QueueCall, send, receive, forcedSend, setBuffer, room}
-use Rattle.model.specs.Sends.{sendIn, sendOf, wordOf, notShown, waitingSends, buffered}
-use Rattle.model.specs.QueueClaims.{askedOf, byQueue, sentIn, Sender, senderOf, senderIn, maySend, mayReceive, SentAllowed, began, IsReceive, Came, TakenIn, TakenAllowed, Carried}
+use Rattle.model.specs.Sends.{Sent, sendIn, sendOf, wordOf, notShown, waitingSends, buffered}
+use Rattle.model.specs.QueueClaims.{askedOf, byQueue, Sender, senderOf, senderIn, maySend, mayReceive, SentAllowed, began, IsReceive, Came, TakenIn, TakenAllowed, Carried}
 use Rattle.model.specs.Calls.{Op, onSemaphore, onQueue, Call, asks, step}
 use Rattle.model.specs.Conditions.{QueuesFit, QueueEntryFits}
 use Rattle.model.specs.History.{History, event, Made, seenBy, after, history, askedIf, ofAsked, vectorSince, vectorBy, joined, without, pending}
@@ -245,20 +245,20 @@ module _ (s₀ s : State) (h : History) (i : Inv s₀ s h) where
     taken c = sees room laws askedOf whose s q (λ m s′. TakenAllowed (domainAt s₀) (queueAt s₀ q .vector) m (byQueue q h)) (record { refused = λ t a e. tt; elsewhere = λ t a s′ e f. nothing (a .code); here = take-here }) c
 
     -- ---- who sent
-    abbrev Sends : ℕ → List ℕ → Type 0
-    Sends t l = All (λ (w : ℕ). T (maySend (domainAt s₀) (queueAt s₀ q .vector) t (byQueue q h))) l
+    abbrev Sends : ℕ → List Sent → Type 0
+    Sends t l = All (λ (x : Sent). T (maySend (domainAt s₀) (queueAt s₀ q .vector) t (byQueue q h))) l
 
     none-sent : (t : ℕ) (k : Code) → Sends t (whenAccepted [] [] k)
     none-sent t ok = tt
     none-sent t waiting = tt
     none-sent t (error e) = tt
 
-    accepted : (t : ℕ) (l : List ℕ) (k : Code) → Sends t l → Sends t (whenAccepted [] l k)
+    accepted : (t : ℕ) (l : List Sent) (k : Code) → Sends t l → Sends t (whenAccepted [] l k)
     accepted t l ok f = f
     accepted t l waiting f = f
     accepted t l (error e) f = tt
 
-    sent-here : (t : ℕ) (a : Act QueueCall) → Passed room s t q a → Sends t (ofOwn [] sentIn a)
+    sent-here : (t : ℕ) (a : Act QueueCall) → Passed room s t q a → Sends t (ofOwn [] (sendIn (length (byQueue q h)) t) a)
     sent-here t (own (send b w)) p = (may-send q t (p .may), tt)
     sent-here t (own (receive b)) p = tt
     sent-here t (own (forcedSend w)) p = (may-send q t (p .may), tt)
@@ -269,7 +269,7 @@ module _ (s₀ s : State) (h : History) (i : Inv s₀ s h) where
     sent-allowed c = sees room laws askedOf whose s q (λ m s′. SentAllowed (domainAt s₀) (queueAt s₀ q .vector) m (byQueue q h)) (record {
       refused = λ t a e. tt;
       elsewhere = λ t a s′ e f. none-sent t (a .code);
-      here = λ t a p. accepted t (ofOwn [] sentIn a) (actOn room (s .waits) (s .queues) t q a .answer .code) (sent-here t a p);
+      here = λ t a p. accepted t (ofOwn [] (sendIn (length (byQueue q h)) t) a) (actOn room (s .waits) (s .queues) t q a .answer .code) (sent-here t a p);
     }) c
 
   next : (c : Call) → Inv s₀ (step s c .state) (event s c ∷ h)

@@ -10,12 +10,12 @@ use lib.ListN.{length}
 use Rattle.access.specs.Patterns.{admitted}
 use Rattle.model.specs.Lists.{All, keep, Each, gathered}
 use Rattle.model.specs.State.{Vector, Queue, Side, receiving, sending, Waiter, no}
-use Rattle.model.specs.Answers.{Released, whenOk, whenWaiting, whenAccepted}
+use Rattle.model.specs.Answers.{Released, whenOk, whenWaiting}
 use Rattle.model.specs.Acts.{Act, own, refer, setVector}
 use Rattle.model.specs.Queues.{QueueCall, send, receive, forcedSend}
 use Rattle.model.specs.Calls.{Op, onSemaphore, onQueue}
 use Rattle.model.specs.History.{History, Made, seenBy, askedIf, ofAsked, vectorSince}
-use Rattle.model.specs.Sends.{Sent, wordOf, unforced, times, Ascending, acceptedOf, waitingSends, withdrawn, entered, handed, findsFull, buffered, drops, dropped, hands, handedOut, leaves}
+use Rattle.model.specs.Sends.{Sent, wordOf, unforced, times, Ascending, accepts, acceptedOf, waitingSends, withdrawn, entered, handed, findsFull, buffered, drops, dropped, hands, handedOut, leaves}
 
 -- ---- a history as queue q sees it
 abbrev pub askedOf : ℕ → Op → Option (Act QueueCall)
@@ -33,17 +33,7 @@ patternFor v (own (forcedSend w)) = v .normal1
 patternFor v refer = v .reference
 patternFor v (setVector w) = v .management
 
--- ---- what is counted
--- a send of any kind is accepted when it answers E_OK or "waiting": its word
-abbrev pub sentIn : QueueCall → List ℕ
-sentIn (send p w) = w ∷ []
-sentIn (receive p) = []
-sentIn (forcedSend w) = w ∷ []
-
-abbrev pub sent : Made QueueCall → List ℕ
-sent m = whenAccepted [] (ofAsked [] sentIn (m .asked)) (m .answer .code)
-
--- a waiting sender, as the state and as its send show it: the task and its word
+-- ---- a waiting sender, as the state and as its send show it: the task and its word
 pub record Sender : Type 0 where
   pub task : ℕ
   pub word : ℕ
@@ -85,7 +75,7 @@ module _ (domain : ℕ → ℤ) (v : Vector) where
 
   -- an accepted send came from a domain admitted when it called
   abbrev pub SentAllowed : Made QueueCall → List (Made QueueCall) → Type 0
-  SentAllowed m h = All (λ (w : ℕ). T (maySend (m .caller) h)) (sent m)
+  SentAllowed m h = All (λ (x : Sent). T (maySend (m .caller) h)) (accepts m h)
 
   -- task t's newest call that answered "waiting" was a receive from this queue, and was admitted when it called
   abbrev pub Came : ℕ → List (Made QueueCall) → Type 0
@@ -101,15 +91,16 @@ module _ (domain : ℕ → ℤ) (v : Vector) where
   abbrev pub TakenAllowed : Made QueueCall → List (Made QueueCall) → Type 0
   TakenAllowed m h = whenOk Unit (ofAsked Unit (TakenIn m h) (m .asked)) (m .answer .code)
 
--- ---- an answer hands out the words of the sends that entered or passed first, of all that stand in the line
+-- ---- an answer hands out the words of those sends that entered or passed first, of all that are still there
 abbrev pub HandsFirst : ℕ → Made QueueCall → List (Made QueueCall) → Type 0
-HandsFirst c m h = handed m ≡ map wordOf (hands c m h)
+HandsFirst capacity m h = handed m ≡ map wordOf (hands capacity m h)
 
--- a forced send that finds the buffer full drops one word
+-- a forced send that finds the buffer full drops one word, and no other call drops any
 abbrev pub DropsOne : ℕ → Made QueueCall → List (Made QueueCall) → Type 0
-DropsOne c m h = length (drops c m h) ≡ findsFull c (buffered c h) m
+DropsOne capacity m h = length (drops capacity m h) ≡ findsFull capacity (buffered capacity h) m
 
--- ---- demand 3 (its order by request T-05), of the calls h (the newest first) as the queue x, which began so, saw them, which left it with this buffer and these senders
+-- ---- demand 3, of the calls h (the newest first) as the queue x saw them, which the table had so, and which they left with this buffer and these senders;
+-- its order as request T-05 has it: with which call a word enters or passes is said by `enters`
 pub record Carried (domain : ℕ → ℤ) (x : Queue) (h : List (Made QueueCall)) (buffer : List ℕ) (senders : List Waiter) : Type 0 where
   -- "words in the buffer and handed or dropped out stand in the order in which they entered the buffer or passed straight to a receiver"
   pub ordered : gathered (leaves (x .capacity)) h ++ buffer ≡ map wordOf (entered h)
