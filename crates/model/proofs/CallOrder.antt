@@ -20,8 +20,8 @@ use Rattle.model.specs.History.{History, Made, ofAsked}
 use Rattle.model.specs.Sends.{Sent, sendIn, sendOf, wordOf, unforced, times, Ascending, accepts, shown, notShown, waitingSends, withdrawn, entersIn, enters, entered, handed, fullIn, findsFull, buffered, leaves}
 use Rattle.model.specs.QueueClaims.{byQueue, Sender, wordsIn, Carried}
 use Rattle.model.specs.Demand3.{Demand3}
-use Rattle.model.proofs.Lists.{no-both, eqb-same, eqb-no, map-append, all-keep}
-use Rattle.model.proofs.Sends.{Of, send-of, accepted, accepted-ascends, accepted-once, entered-placed, times-append, all-append, all-weaker, words-of, words-in}
+use Rattle.model.proofs.Lists.{no-both, eqb-same, eqb-no, map-append, all-keep, all-append, all-parts, all-weaker}
+use Rattle.model.proofs.Sends.{Of, send-of, accepted, accepted-ascends, accepted-once, entered-placed, times-append, words-of, words-in}
 
 -- ---- what is true of every accepted send is true of those that entered and of those that wait
 module _ (P : Sent → Type 0) where
@@ -42,19 +42,12 @@ module _ (P : Sent → Type 0) where
       go waiting k = (tt, k)
       go (error e) k = (tt, tt)
 
-  all-left : (l m : List Sent) → All P (l ++ m) → All P l
-  all-left [] m f = tt
-  all-left (x ∷ l) m f = (f .0, all-left l m (f .1))
-
-  all-right : (l m : List Sent) → All P (l ++ m) → All P m
-  all-right [] m f = f
-  all-right (x ∷ l) m f = all-right l m (f .1)
-
   entered-too : (h : List (Made QueueCall)) → All P (accepted h) → All P (entered h) × All P (waitingSends h)
   entered-too [] f = (tt, tt)
   entered-too (m ∷ h) f =
-      let i = entered-too h (all-left (accepted h) (accepts m h) f) in
-      let n = accepted-too m h (all-right (accepted h) (accepts m h) f) (i .1) in (
+      let k = all-parts P (accepted h) (accepts m h) f in
+      let i = entered-too h (k .0) in
+      let n = accepted-too m h (k .1) (i .1) in (
         all-append P (entered h) (enters m h) (i .0) (n .0),
         all-append P (keep (notShown (m .answer .released)) (waitingSends h)) (whenWaiting [] (sendOf m h) (m .answer .code)) (all-keep P (notShown (m .answer .released)) (waitingSends h) (i .1)) (n .1),
       )
@@ -188,8 +181,9 @@ none-full c b m h f = go (m .answer .code) (m .asked) f
 leaves-handed : (c : ℕ) (h : List (Made QueueCall)) → Unforced (accepted h) → gathered (leaves c) h ≡ words handed h
 leaves-handed c [] f = refl
 leaves-handed c (m ∷ h) f =
-    let n = none-full c (buffered c h) m h (all-right (λ (x : Sent). x .forced ≡ false) (accepted h) (accepts m h) f) in
-    (λ i. leaves-handed c h (all-left (λ (x : Sent). x .forced ≡ false) (accepted h) (accepts m h) f) i ++ (map wordOf (take (n i) (buffered c h)) ++ handed m))
+    let k = all-parts (λ (x : Sent). x .forced ≡ false) (accepted h) (accepts m h) f in
+    let n = none-full c (buffered c h) m h (k .1) in
+    λ i. leaves-handed c h (k .0) i ++ (map wordOf (take (n i) (buffered c h)) ++ handed m)
 
 -- ---- "the words handed out, then those buffered (oldest first), then those of the waiting senders (first to last), are the words of the accepted sends in call order"
 pub call-order : {domain : ℕ → ℤ} {x : Queue} {h : List (Made QueueCall)} {buffer : List ℕ} {senders : List Waiter} → Carried domain x h buffer senders → Unforced (accepted h) → withdrawn h ≡ []

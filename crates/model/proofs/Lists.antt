@@ -198,6 +198,19 @@ module _ {A : Type 0} (P : A → Type 0) where
   all-snoc [] x h k = (k, tt)
   all-snoc (y ∷ l) x h k = (h .0, all-snoc l x (h .1) k)
 
+  pub all-append : (l m : List A) → All P l → All P m → All P (l ++ m)
+  all-append [] m h k = k
+  all-append (x ∷ l) m h k = (h .0, all-append l m (h .1) k)
+
+  -- and back: of both parts
+  pub all-parts : (l m : List A) → All P (l ++ m) → All P l × All P m
+  all-parts [] m h = (tt, h)
+  all-parts (x ∷ l) m h = let k = all-parts l m (h .1) in ((h .0, k .0), k .1)
+
+  pub all-weaker : (Q : A → Type 0) → ((x : A) → P x → Q x) → (l : List A) → All P l → All Q l
+  all-weaker Q g [] h = tt
+  all-weaker Q g (x ∷ l) h = (g x (h .0), all-weaker Q g l (h .1))
+
   pub all-put : (l : List A) (n : ℕ) (x : A) → All P l → P x → All P (put l n x)
   all-put l zero x h k = h
   all-put [] (suc n) x h k = tt

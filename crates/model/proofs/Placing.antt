@@ -1,28 +1,28 @@
 -- What one call does to the sends on a data queue: which enter or pass, leave, are dropped and wait. Assumes nothing.
 use mathlib.Core.Path.{_≡_, refl, sym, ap, _∙_, subst}
 use mathlib.Core.Logic.{_≢_}
-use mathlib.Core.Bool.{Bool, true, false, cond, not, _||_}
+use mathlib.Core.Bool.{Bool, true, false, cond, not}
 use mathlib.Core.List.{List, [], _∷_, _++_, map, append-nil, head-eq-of-cons-eq, tail-eq-of-cons-eq}
 use mathlib.Core.Option.{Option, none, some}
 use Prim.Native.Nat.{ℕ, zero, suc, _≤_, _<_}
 use native.Mathlib.Omega.{arith}
-use lib.Dec.{eqb, leb, ltb}
-use lib.ListN.{length, take, drop, length-append, length-map}
+use lib.Dec.{ltb}
+use lib.ListN.{length, take, drop, length-map}
 use borrow.Author.Tests.{ltb-true, ltb-false}
 use Rattle.itron.specs.Codes.{Err, eIluse, eTmout, Code, ok, waiting, error}
 use Rattle.model.specs.Lists.{keep, consIf}
-use Rattle.model.specs.State.{Vector, Queue, Waiter, receiving, sending, place, waiter, noQueue}
+use Rattle.model.specs.State.{Queue, Waiter, receiving, sending, place, noQueue}
 use Rattle.model.specs.Answers.{Answer, Effect, say, tells, whenWaiting}
 use Rattle.model.specs.Waits.{Patience, polling, forever, waitersIn, freed}
 use Rattle.model.specs.Acts.{Act, own, refer, setVector}
 use Rattle.model.specs.Rooms.{actOn}
 use Rattle.model.specs.Queues.{QueueCall, send, receive, forcedSend, queueIn, setBuffer, does, told, room}
 use Rattle.model.specs.History.{Made}
-use Rattle.model.specs.Sends.{Sent, sentAs, wordOf, unforced, shown, notShown, waitingSends, accepts, enters, handed, fullIn, findsFull, buffered}
-use Rattle.model.specs.QueueClaims.{Sender, senderOf, senderIn, DropsOne}
-use Rattle.model.proofs.Lists.{Distinct, cons-ne, eqb-same, no-both, at-put-same, at-put-keep, keep-whole, keep-rest, map-append, map-parts}
+use Rattle.model.specs.Sends.{Sent, sentAs, wordOf, shown, notShown, waitingSends, accepts, enters, handed, fullIn, findsFull, buffered}
+use Rattle.model.specs.QueueClaims.{Sender, senderOf, senderIn}
+use Rattle.model.proofs.Lists.{Distinct, cons-ne, eqb-same, at-put-same, at-put-keep, keep-whole, keep-rest, map-append, map-parts}
 use Rattle.model.proofs.Tests.{holds, fails, le-tells}
-use Rattle.model.proofs.WaitQueues.{leave-here, leave-elsewhere}
+use Rattle.model.proofs.WaitQueues.{leave-here}
 use Rattle.model.proofs.Rooms.{ok-same, accepted-same}
 use Rattle.model.proofs.Queues.{QueueOk, viewIn, cover, empty, unheld}
 use Rattle.model.proofs.Sends.{Line, inTurn, ahead, Moves}

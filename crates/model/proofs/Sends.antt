@@ -1,6 +1,6 @@
 -- The sends on one data queue: from what one call does to them to what holds after any list of calls. Assumes nothing.
 use mathlib.Core.Path.{_≡_, refl, sym, ap, _∙_, subst}
-use mathlib.Core.Bool.{Bool, true, false, cond, not}
+use mathlib.Core.Bool.{Bool, true, false, cond}
 use mathlib.Core.List.{List, [], _∷_, _++_, map, append-assoc, append-nil}
 use mathlib.Core.Option.{Option, none, some}
 use Prim.Native.Nat.{ℕ, suc, _+_, _≤_, _<_}
@@ -16,7 +16,7 @@ use Rattle.model.specs.History.{Made}
 use Rattle.model.specs.Sends.{Sent, sendOf, wordOf, unforced, times, Ascending, accepts, acceptedOf, waitingSends, withdrawn, enters, entered, handed, findsFull, line, buffered, drops, dropped, hands, handedOut, leaves}
 use Rattle.model.specs.State.{Waiter}
 use Rattle.model.specs.QueueClaims.{Sender, senderOf, senderIn, wordsIn, HandsFirst, DropsOne}
-use Rattle.model.proofs.Lists.{eq-of, ne-of, eqb-same, eqb-no, keep-append, append-cancel, map-append, map-parts, all-keep}
+use Rattle.model.proofs.Lists.{eq-of, ne-of, eqb-same, eqb-no, keep-append, append-cancel, map-append, map-parts, all-keep, all-append, all-weaker}
 
 -- ---- how many are of one call
 abbrev ofCall : ℕ → Sent → Bool
@@ -58,9 +58,7 @@ module _ (c : ℕ) where
   in-order [] f = refl
   in-order (m ∷ h) f =
       append-assoc g (d ++ handed m) (map wordOf (drop n l))
-      ∙ ap (λ (k : List ℕ). g ++ k)
-      (append-assoc d (handed m) (map wordOf (drop n l)) ∙ ap (λ (k : List ℕ). d ++ k) (ap (λ (k : List ℕ). k ++ map wordOf (drop n l)) (f .0) ∙ map-split n l) ∙ ap (λ (k : List ℕ). d ++ k) (map-append wordOf (drop j b) (enters m h)) ∙ sym (append-assoc d (map wordOf (drop j b)) (map wordOf (enters m h)))
-      ∙ ap (λ (k : List ℕ). k ++ map wordOf (enters m h)) (map-split j b))
+      ∙ ap (λ (k : List ℕ). g ++ k) line-up
       ∙ sym (append-assoc g (map wordOf b) (map wordOf (enters m h)))
       ∙ ap (λ (k : List ℕ). k ++ map wordOf (enters m h)) (in-order h (f .1))
       ∙ sym (map-append wordOf (entered h) (enters m h))
@@ -85,6 +83,14 @@ module _ (c : ℕ) where
 
       map-split : (i : ℕ) (k : List Sent) → map wordOf (take i k) ++ map wordOf (drop i k) ≡ map wordOf k
       map-split i k = sym (map-append wordOf (take i k) (drop i k)) ∙ ap (map wordOf) (take-append-drop i k)
+
+      -- what leaves with this call and what stays are what was in the buffer and what enters
+      line-up : (d ++ handed m) ++ map wordOf (drop n l) ≡ map wordOf b ++ map wordOf (enters m h)
+      line-up =
+          append-assoc d (handed m) (map wordOf (drop n l))
+          ∙ ap (λ (k : List ℕ). d ++ k) (ap (λ (k : List ℕ). k ++ map wordOf (drop n l)) (f .0) ∙ map-split n l ∙ map-append wordOf (drop j b) (enters m h))
+          ∙ sym (append-assoc d (map wordOf (drop j b)) (map wordOf (enters m h)))
+          ∙ ap (λ (k : List ℕ). k ++ map wordOf (enters m h)) (map-split j b)
 
   -- the words of the sends handed out are those that the answers hand out, those of the sends in the buffer are the buffer's
   pub handed-are : (h : List (Made QueueCall)) → Each (HandsFirst c) h → words handed h ≡ map wordOf (handedOut c h)
@@ -141,14 +147,6 @@ times-newer k [] f = refl
 times-newer k (x ∷ l) f = ap (λ b. length (consIf b x (keep (ofCall k) l))) (eqb-no k (x .call) (λ e. omega (arith, e, f .0))) ∙ times-newer k l (f .1)
 
 -- ascending lists
-pub all-append : (P : Sent → Type 0) (l m : List Sent) → All P l → All P m → All P (l ++ m)
-all-append P [] m f g = g
-all-append P (x ∷ l) m f g = (f .0, all-append P l m (f .1) g)
-
-pub all-weaker : (P Q : Sent → Type 0) → ((x : Sent) → P x → Q x) → (l : List Sent) → All P l → All Q l
-all-weaker P Q g [] f = tt
-all-weaker P Q g (x ∷ l) f = (g x (f .0), all-weaker P Q g l (f .1))
-
 abbrev Below : ℕ → List Sent → Type 0
 Below k l = All (λ (x : Sent). x .call < k) l
 
