@@ -17,7 +17,7 @@ use Rattle.model.specs.Acts.{Act, own, refer, setVector}
 use Rattle.model.specs.Queues.{QueueCall, send, receive, forcedSend}
 use Rattle.model.specs.Waits.{senders}
 use Rattle.model.specs.History.{History, Made, ofAsked}
-use Rattle.model.specs.Sends.{Sent, sendIn, sendOf, wordOf, unforced, times, Ascending, accepts, shown, notShown, waitingSends, withdrawn, entersIn, enters, entered, handed, fullIn, findsFull, buffered, leaves}
+use Rattle.model.specs.Sends.{Sent, sendIn, sendOf, wordOf, unforced, times, Before, Ascending, accepts, shown, notShown, waitingSends, withdrawn, entersIn, enters, entered, handed, fullIn, findsFull, buffered, leaves}
 use Rattle.model.specs.QueueClaims.{byQueue, Sender, wordsIn, Carried}
 use Rattle.model.specs.Demand3.{Demand3}
 use Rattle.model.proofs.Lists.{no-both, eqb-same, eqb-no, map-append, all-keep, all-append, all-parts, all-weaker}
@@ -66,7 +66,7 @@ times-before k (x ∷ l) f = ap (λ (b : Bool). length (consIf b x (keep (λ (y 
 -- the first of one is not before the first of the other
 not-before : (x y : Sent) (l m : List Sent) → Ascending (y ∷ m) → times (x .call) (x ∷ l) ≡ times (x .call) (y ∷ m) → x .call < y .call → ⊥
 not-before x y l m a h b =
-    let z = times-before (x .call) (y ∷ m) (b, all-weaker (λ (u : Sent). y .call < u .call) (λ (u : Sent). x .call < u .call) (λ u e. omega (arith, b, e)) m (a .0)) in
+    let z = times-before (x .call) (y ∷ m) (b, all-weaker (Before y) (Before x) (λ u e. omega (arith, b, e)) m (a .0)) in
     omega (arith, h, z, times-here x l)
 
 same-calls : (l m : List Sent) → Ascending l → Ascending m → ((k : ℕ) → times k l ≡ times k m) → calls l ≡ calls m

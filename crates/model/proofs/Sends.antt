@@ -13,7 +13,7 @@ use Rattle.model.specs.Answers.{whenAccepted}
 use Rattle.model.specs.Acts.{Act, own, refer, setVector}
 use Rattle.model.specs.Queues.{QueueCall, send, receive, forcedSend}
 use Rattle.model.specs.History.{Made}
-use Rattle.model.specs.Sends.{Sent, sendOf, wordOf, unforced, times, Ascending, accepts, acceptedOf, waitingSends, withdrawn, enters, entered, handed, findsFull, line, buffered, drops, dropped, hands, handedOut, leaves}
+use Rattle.model.specs.Sends.{Sent, sendOf, wordOf, unforced, times, Before, Ascending, accepts, acceptedOf, waitingSends, withdrawn, enters, entered, handed, findsFull, line, buffered, drops, dropped, hands, handedOut, leaves}
 use Rattle.model.specs.State.{Waiter}
 use Rattle.model.specs.QueueClaims.{Sender, senderOf, senderIn, wordsIn, HandsFirst, DropsOne}
 use Rattle.model.proofs.Lists.{eq-of, ne-of, eqb-same, eqb-no, keep-append, append-cancel, map-append, map-parts, all-keep, all-append, all-weaker}
@@ -155,7 +155,7 @@ ascending-append k [] [] a b o = tt
 ascending-append k [] (x ∷ []) a b o = (tt, tt)
 ascending-append k [] (x ∷ (y ∷ m)) a b o = absurd (omega (arith, o .1))
 ascending-append k (x ∷ l) m a b o = (
-  all-append (λ (y : Sent). x .call < y .call) l m (a .0) (all-weaker (λ (y : Sent). y .call ≡ k) (λ (y : Sent). x .call < y .call) (λ y e. omega (arith, e, b .0)) m (o .0)),
+  all-append (Before x) l m (a .0) (all-weaker (λ (y : Sent). y .call ≡ k) (Before x) (λ y e. omega (arith, e, b .0)) m (o .0)),
   ascending-append k l m (a .1) (b .1) o,
 )
 
@@ -164,7 +164,7 @@ ascending-keep p [] a = tt
 ascending-keep p (x ∷ l) a = go (p x) (ascending-keep p l (a .1))
   where
     go : (b : Bool) → Ascending (keep p l) → Ascending (consIf b x (keep p l))
-    go true k = (all-keep (λ (y : Sent). x .call < y .call) p l (a .0), k)
+    go true k = (all-keep (Before x) p l (a .0), k)
     go false k = k
 
 pub accepted-below : (h : List (Made QueueCall)) → Below (length h) (accepted h)

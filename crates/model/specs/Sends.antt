@@ -39,9 +39,12 @@ abbrev pub times : ℕ → List Sent → ℕ
 times k l = length (keep (λ (x : Sent). eqb k (x .call)) l)
 
 -- in call order
+abbrev pub Before : Sent → Sent → Type 0
+Before x y = x .call < y .call
+
 abbrev pub Ascending : List Sent → Type 0
 Ascending [] = Unit
-Ascending (x ∷ l) = All (λ (y : Sent). x .call < y .call) l × Ascending l
+Ascending (x ∷ l) = All (Before x) l × Ascending l
 
 -- ---- a send of any kind is accepted when it answers E_OK or "waiting"
 abbrev pub accepts : Made QueueCall → List (Made QueueCall) → List Sent
