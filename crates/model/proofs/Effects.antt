@@ -1,4 +1,4 @@
--- What a call that passes the checks answers and leaves (document 01, "Calls on an open gateway"): the whole answer and the whole state, in terms of the
+-- What a call that passes the checks answers and leaves (document 01, "Calls on an open gateway"; forced send: request T-05): the whole answer and the whole state, in terms of the
 -- lists themselves. The object stands behind those of l, so its number is one more than these are; the caller is task k. Assumes nothing.
 use mathlib.Core.Path.{_≡_, refl, sym, ap, _∙_}
 use mathlib.Core.Logic.{_≢_}

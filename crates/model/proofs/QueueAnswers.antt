@@ -1,4 +1,4 @@
--- What a call on a data queue that passes the checks answers (document 01, "Calls on an open gateway"): its sentences, each by plain facts of the state before. Assumes nothing.
+-- What a call on a data queue that passes the checks answers (document 01, "Calls on an open gateway"; forced send: request T-05): its sentences, each by plain facts of the state before. Assumes nothing.
 use mathlib.Core.Path.{_≡_, refl, sym, _∙_, subst}
 use mathlib.Core.Logic.{_≢_}
 use mathlib.Core.Bool.{Bool, true, false}
