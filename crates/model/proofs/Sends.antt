@@ -13,7 +13,7 @@ use Rattle.model.specs.Answers.{whenAccepted}
 use Rattle.model.specs.Acts.{Act, own, refer, setVector}
 use Rattle.model.specs.Queues.{QueueCall, send, receive, forcedSend}
 use Rattle.model.specs.History.{Made}
-use Rattle.model.specs.Sends.{Sent, sendOf, wordOf, unforced, times, Before, Ascending, accepts, acceptedOf, waitingSends, withdrawn, enters, entered, handed, findsFull, line, buffered, drops, dropped, hands, handedOut, leaves}
+use Rattle.model.specs.Sends.{Sent, sendOf, wordOf, unforced, times, Before, Ascending, accepts, acceptedOf, waitingSends, withdrawn, enters, entered, handed, findsFull, present, buffered, drops, dropped, hands, handedOut, leaves}
 use Rattle.model.specs.State.{Waiter}
 use Rattle.model.specs.QueueClaims.{Sender, senderOf, senderIn, wordsIn, HandsFirst, DropsOne}
 use Rattle.model.proofs.Lists.{eq-of, ne-of, eqb-same, eqb-no, keep-append, append-cancel, map-append, map-parts, all-keep, all-append, all-weaker}
@@ -47,18 +47,18 @@ module _ (c : ℕ) where
     times-append k (handedOut c h) (hands c m h),
     times-append k (dropped c h) (drops c m h),
     times-append k (entered h) (enters m h),
-    times-split k (length (handed m)) (line c (buffered c h) m h),
+    times-split k (length (handed m)) (present c (buffered c h) m h),
     times-append k (drop (findsFull c (buffered c h) m) (buffered c h)) (enters m h),
     times-split k (findsFull c (buffered c h) m) (buffered c h),
   )
 
-  -- ---- where each answer hands out the words at the line's front
+  -- ---- where each answer hands out the words of the first of those present
   -- the words that left, then those of the sends in the buffer, are those that entered or passed
   pub in-order : (h : List (Made QueueCall)) → Each (HandsFirst c) h → gathered (leaves c) h ++ map wordOf (buffered c h) ≡ map wordOf (entered h)
   in-order [] f = refl
   in-order (m ∷ h) f =
       append-assoc g (d ++ handed m) (map wordOf (drop n l))
-      ∙ ap (λ (k : List ℕ). g ++ k) line-up
+      ∙ ap (λ (k : List ℕ). g ++ k) moved-up
       ∙ sym (append-assoc g (map wordOf b) (map wordOf (enters m h)))
       ∙ ap (λ (k : List ℕ). k ++ map wordOf (enters m h)) (in-order h (f .1))
       ∙ sym (map-append wordOf (entered h) (enters m h))
@@ -70,7 +70,7 @@ module _ (c : ℕ) where
       j = findsFull c b m
 
       l : List Sent
-      l = line c b m h
+      l = present c b m h
 
       n : ℕ
       n = length (handed m)
@@ -85,8 +85,8 @@ module _ (c : ℕ) where
       map-split i k = sym (map-append wordOf (take i k) (drop i k)) ∙ ap (map wordOf) (take-append-drop i k)
 
       -- what leaves with this call and what stays are what was in the buffer and what enters
-      line-up : (d ++ handed m) ++ map wordOf (drop n l) ≡ map wordOf b ++ map wordOf (enters m h)
-      line-up =
+      moved-up : (d ++ handed m) ++ map wordOf (drop n l) ≡ map wordOf b ++ map wordOf (enters m h)
+      moved-up =
           append-assoc d (handed m) (map wordOf (drop n l))
           ∙ ap (λ (k : List ℕ). d ++ k) (ap (λ (k : List ℕ). k ++ map wordOf (drop n l)) (f .0) ∙ map-split n l ∙ map-append wordOf (drop j b) (enters m h))
           ∙ sym (append-assoc d (map wordOf (drop j b)) (map wordOf (enters m h)))
@@ -212,8 +212,8 @@ line-keeps {e} {w} {w′} {a} (ahead p q f) =
 module _ (c : ℕ) where
   -- a call after the calls h, which leaves the buffer b′
   pub record Moves (m : Made QueueCall) (h : List (Made QueueCall)) (b′ : List ℕ) : Type 0 where
-    -- what it hands out and what is in the buffer then are the words of the line
-    pub flow : handed m ++ b′ ≡ map wordOf (line c (buffered c h) m h)
+    -- what it hands out and what is in the buffer then are the words of those present
+    pub flow : handed m ++ b′ ≡ map wordOf (present c (buffered c h) m h)
     pub one : DropsOne c m h
     pub turn : Line (enters m h) (waitingSends (m ∷ h)) (waitingSends h) (accepts m h)
 
@@ -243,7 +243,7 @@ module _ (c : ℕ) where
 
     pub one-more : Held (m ∷ h) b′
     one-more =
-        let p = map-parts wordOf (handed m) b′ (line c (buffered c h) m h) (f .flow) in
+        let p = map-parts wordOf (handed m) b′ (present c (buffered c h) m h) (f .flow) in
         record {
           words = p .1;
           handedAre = (p .0, i .handedAre);

@@ -91,7 +91,7 @@ module _ (domain : ℕ → ℤ) (v : Vector) where
   abbrev pub TakenAllowed : Made QueueCall → List (Made QueueCall) → Type 0
   TakenAllowed m h = whenOk Unit (ofAsked Unit (TakenIn m h) (m .asked)) (m .answer .code)
 
--- ---- an answer hands out the words of those sends that entered or passed first, of all that are still there
+-- ---- an answer hands out the words of those sends that entered or passed first, of all present at its call
 abbrev pub HandsFirst : ℕ → Made QueueCall → List (Made QueueCall) → Type 0
 HandsFirst capacity m h = handed m ≡ map wordOf (hands capacity m h)
 
@@ -99,10 +99,11 @@ HandsFirst capacity m h = handed m ≡ map wordOf (hands capacity m h)
 abbrev pub DropsOne : ℕ → Made QueueCall → List (Made QueueCall) → Type 0
 DropsOne capacity m h = length (drops capacity m h) ≡ findsFull capacity (buffered capacity h) m
 
--- ---- demand 3, of the calls h (the newest first) as the queue x saw them, which the table had so, and which they left with this buffer and these senders;
--- its order as request T-05 has it: with which call a word enters or passes is said by `enters`
+-- ---- demand 3, of the calls h (the newest first) as a queue saw them: the table gave it as x, and they left it with this buffer and these senders.
+-- Its order is request T-05's; with which call a word enters or passes is said by `enters` (Sends)
 pub record Carried (domain : ℕ → ℤ) (x : Queue) (h : List (Made QueueCall)) (buffer : List ℕ) (senders : List Waiter) : Type 0 where
-  -- "words in the buffer and handed or dropped out stand in the order in which they entered the buffer or passed straight to a receiver"
+  -- "words in the buffer and handed or dropped out stand in the order in which they entered the buffer or passed straight to a receiver":
+  -- all that left and then the buffer; and what each answer hands out, of those present at its call
   pub ordered : gathered (leaves (x .capacity)) h ++ buffer ≡ map wordOf (entered h)
   pub handedAre : Each (HandsFirst (x .capacity)) h
   -- "every accepted word, told apart by its call, is in exactly one place: handed out, dropped, buffered, with a waiting sender, or withdrawn by T-04;

@@ -110,14 +110,14 @@ module _ (capacity : ℕ) where
   abbrev pub findsFull : List Sent → Made QueueCall → ℕ
   findsFull b m = whenOk 0 (ofAsked 0 (fullIn b) (m .asked)) (m .answer .code)
 
-  -- the line from which a call hands out: the sends in the buffer but for the dropped one, then those that enter or pass with it
-  abbrev pub line : List Sent → Made QueueCall → List (Made QueueCall) → List Sent
-  line b m h = drop (findsFull b m) b ++ enters m h
+  -- those from which a call hands out: the sends in the buffer but for the dropped one, then those that enter or pass with the call
+  abbrev pub present : List Sent → Made QueueCall → List (Made QueueCall) → List Sent
+  present b m h = drop (findsFull b m) b ++ enters m h
 
-  -- in the buffer, the oldest first: a call takes as many from the line's front as it hands out words
+  -- in the buffer, the oldest first: a call takes as many of those present, the first ones, as it hands out words
   abbrev pub buffered : List (Made QueueCall) → List Sent
   buffered [] = []
-  buffered (m ∷ h) = drop (length (handed m)) (line (buffered h) m h)
+  buffered (m ∷ h) = drop (length (handed m)) (present (buffered h) m h)
 
   -- "Dropped are just the words that accepted forced sends found oldest in a full buffer"
   abbrev pub drops : Made QueueCall → List (Made QueueCall) → List Sent
@@ -126,13 +126,13 @@ module _ (capacity : ℕ) where
   abbrev pub dropped : List (Made QueueCall) → List Sent
   dropped h = gathered drops h
 
-  -- handed out
+  -- handed out: the first of those present
   abbrev pub hands : Made QueueCall → List (Made QueueCall) → List Sent
-  hands m h = take (length (handed m)) (line (buffered h) m h)
+  hands m h = take (length (handed m)) (present (buffered h) m h)
 
   abbrev pub handedOut : List (Made QueueCall) → List Sent
   handedOut h = gathered hands h
 
-  -- the words that leave with a call: dropped, and as its answer hands them out
+  -- the words that leave with a call: the dropped one, then those that its answer hands out
   abbrev pub leaves : Made QueueCall → List (Made QueueCall) → List ℕ
   leaves m h = map wordOf (drops m h) ++ handed m
