@@ -93,6 +93,14 @@ pub fn snd_dtq(s: State, task: i32, id: i32, word: u32) -> State
     say(s.snd_dtq(task, id, word))
 }
 
+pub fn fsnd_dtq(s: State, task: i32, id: i32, word: u32) -> State
+    requires { ⌜ Valid s ⌝ }
+    ensures { λ r. ⌜ Valid r ⌝ }
+{
+    label_word(task, b" sends by force to queue ", id, word);
+    say(s.fsnd_dtq(task, id, word))
+}
+
 pub fn prcv_dtq(s: State, task: i32, id: i32) -> State
     requires { ⌜ Valid s ⌝ }
     ensures { λ r. ⌜ Valid r ⌝ }

@@ -1,8 +1,9 @@
-// The bench runs and the easy slips of document 01, with units and chains of regions (document 02, T-06 and T-09), through the kernel's
-// public operations, one line for each step.
+// The bench runs and the easy slips of document 01, with forced sends, units and chains of regions (document 02, T-05, T-06 and T-09),
+// through the kernel's public operations, one line for each step.
 pub mod calls;
 pub mod chains;
 pub mod entries;
+pub mod forced;
 pub mod names;
 pub mod runs;
 pub mod say;
@@ -22,6 +23,7 @@ fn main() {
     table::limits();
     runs::numbers(table);
     runs::regions(table);
+    forced::all(table);
     units::all();
     chains::all();
     slips::all(table);
