@@ -1,4 +1,4 @@
-// How many bytes a pair of calls hands to memcpy, counted by a memcpy that takes the C library's place. In the repository's root:
+// How many bytes a pair of calls, one call or a verdict hands to memcpy, counted by a memcpy that takes the C library's place. In the repository's root:
 //   cc -O2 -fno-builtin bench-rust/copies.c target/staticlib/libtiming.a target/staticlib/libhost.a -o target/copies
 #include <stdint.h>
 #include <stdio.h>
@@ -8,6 +8,8 @@ uint32_t timing_wait_signal(uint32_t pairs, int32_t waiter, int32_t task, int32_
 uint32_t timing_refer_set_semaphore(uint32_t pairs, int32_t task, int32_t id);
 uint32_t timing_send_receive(uint32_t pairs, int32_t task, int32_t id);
 uint32_t timing_wait_send(uint32_t pairs, int32_t waiter, int32_t task, int32_t id);
+uint32_t timing_force_receive(uint32_t pairs, int32_t task, int32_t id);
+uint32_t timing_force_drop(uint32_t rounds, int32_t task, int32_t id);
 uint32_t timing_refer_set_queue(uint32_t pairs, int32_t task, int32_t id);
 uint32_t timing_verdict(uint32_t rounds, const int32_t *domains, size_t domains_len, const uint32_t *bases,
                         size_t bases_len, uint32_t size, uint32_t wishes);
@@ -36,19 +38,25 @@ static void wait_signal(uint32_t pairs) { timing_wait_signal(pairs, 4, 1, 1); }
 static void refer_set_semaphore(uint32_t pairs) { timing_refer_set_semaphore(pairs, 3, 1); }
 static void send_receive(uint32_t pairs) { timing_send_receive(pairs, 1, 1); }
 static void wait_send(uint32_t pairs) { timing_wait_send(pairs, 4, 1, 1); }
+static void force_receive(uint32_t pairs) { timing_force_receive(pairs, 1, 1); }
 static void refer_set_queue(uint32_t pairs) { timing_refer_set_queue(pairs, 3, 1); }
+// Its first two rounds fill the buffer.
+static void force_drop(uint32_t rounds) { timing_force_drop(rounds + 2, 1, 1); }
 static void inside(uint32_t rounds) { verdicts(rounds, 16); }
 static void into_next(uint32_t rounds) { verdicts(rounds, REGION_SIZE + 16); }
 
-// Task 4 waits to receive from queue 1 (function 9), and task 1 sends to it (function 6).
-static void listed(uint32_t pairs) {
+// Task 4 waits to receive from queue 1 (function 9), and task 1 sends to it (function 6, or by force 12).
+static void list(uint32_t pairs, uint32_t send) {
     static uint32_t calls[16 * (PAIRS + 1)], answers[22 * (PAIRS + 1)];
     for (uint32_t k = 0; k < pairs; k++) {
         uint32_t *call = calls + 16 * k;
-        call[0] = 9, call[1] = 4, call[2] = 1, call[8] = 6, call[9] = 1, call[10] = 1;
+        call[0] = 9, call[1] = 4, call[2] = 1, call[8] = send, call[9] = 1, call[10] = 1;
     }
     host_run(calls, 16 * pairs, answers, 22 * pairs);
 }
+
+static void listed(uint32_t pairs) { list(pairs, 6); }
+static void listed_force(uint32_t pairs) { list(pairs, 12); }
 
 // What the table costs is left out: one round less.
 static void count(const char *name, void (*work)(uint32_t rounds), double in_a_round) {
@@ -62,14 +70,17 @@ static void count(const char *name, void (*work)(uint32_t rounds), double in_a_r
 }
 
 int main(void) {
-    printf("| Pair of calls, or verdict | bytes | copies |\n|---|---|---|\n");
+    printf("| Pair of calls, one call or a verdict | bytes | copies |\n|---|---|---|\n");
     count("signal, poll", signal_poll, 1);
     count("wait, signal", wait_signal, 1);
     count("refer, set-vector: semaphore", refer_set_semaphore, 1);
     count("send, receive", send_receive, 1);
     count("wait to receive, send", wait_send, 1);
+    count("forced send, receive", force_receive, 1);
+    count("one forced send, full", force_drop, 1);
     count("refer, set-vector: queue", refer_set_queue, 1);
     count("verdict, in its region", inside, REGIONS);
     count("verdict, into the next", into_next, REGIONS);
     count("list: wait to receive, send", listed, 1);
+    count("list: wait to receive, forced send", listed_force, 1);
 }

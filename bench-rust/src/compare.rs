@@ -2,6 +2,7 @@
 
 use crate::plain_runs::*;
 use crate::{ours, plain::*};
+use std::collections::BTreeMap;
 
 const SEED: u64 = 0x9E37_79B9_7F4A_7C15;
 const LISTS: u32 = 2_000;
@@ -10,19 +11,20 @@ const MOST_CALLS: u32 = 400;
 const FILLER: u32 = 0xA5A5_A5A5;
 
 /// Those that never wait.
-const QUICK_FUNCTIONS: [u32; 8] = [SIG_SEM, POL_SEM, REF_SEM, SAC_SEM, PSND_DTQ, PRCV_DTQ, REF_DTQ, SAC_DTQ];
+const QUICK_FUNCTIONS: [u32; 9] = [SIG_SEM, POL_SEM, REF_SEM, SAC_SEM, PSND_DTQ, PRCV_DTQ, REF_DTQ, SAC_DTQ, FSND_DTQ];
 /// Signals and sends twice as often, for what waits.
-const ALL_FUNCTIONS: [u32; 13] = [
+const ALL_FUNCTIONS: [u32; 14] = [
     SIG_SEM, SIG_SEM, POL_SEM, WAI_SEM, REF_SEM, SAC_SEM, PSND_DTQ, PSND_DTQ, SND_DTQ, PRCV_DTQ, RCV_DTQ, REF_DTQ,
-    SAC_DTQ,
+    SAC_DTQ, FSND_DTQ,
 ];
 /// Some of them are good but for bits above the low 16.
-const WRONG_FUNCTIONS: [u32; 6] = [0, 12, 0x1_0002, 0x1_0006, 0x8000_0000, u32::MAX];
+const WRONG_FUNCTIONS: [u32; 7] = [0, 13, 0x1_0002, 0x1_0006, 0x1_000C, 0x8000_0000, u32::MAX];
 const WRONG_CALLERS: [i32; 9] = [-1, 0, 5, 255, 256, 0x1_0003, i32::MIN, i32::MIN + 1, i32::MAX];
 const WRONG_OBJECTS: [i32; 12] = [0, -1, 2, 3, 16, 17, 64, 65, 0x1_0001, i32::MIN, i32::MIN + 1, i32::MAX];
 
-const CODES: [Er; 9] = [WAITING, E_OK, E_RSFN, E_ID, E_CTX, E_OACV, E_NOEXS, E_QOVR, E_TMOUT];
-const NAMES: [&str; 9] = ["waiting", "E_OK", "E_RSFN", "E_ID", "E_CTX", "E_OACV", "E_NOEXS", "E_QOVR", "E_TMOUT"];
+const CODES: [Er; 10] = [WAITING, E_OK, E_RSFN, E_ID, E_CTX, E_OACV, E_ILUSE, E_NOEXS, E_QOVR, E_TMOUT];
+const NAMES: [&str; 10] =
+    ["waiting", "E_OK", "E_RSFN", "E_ID", "E_CTX", "E_OACV", "E_ILUSE", "E_NOEXS", "E_QOVR", "E_TMOUT"];
 
 /// Marsaglia's xorshift: quick, and the same lists on every machine.
 pub struct Random(u64);
@@ -83,16 +85,19 @@ fn random_call(random: &mut Random, ready: &[i32]) -> [u32; CALL_WORDS] {
     call
 }
 
-/// The list is made along a run of its own, which tells who is ready.
-fn random_calls(random: &mut Random) -> Vec<u32> {
+/// The list is made along a run of its own, which tells who is ready, and what each of its forced sends meets.
+fn random_calls(random: &mut Random) -> (Vec<u32>, Vec<Option<&'static str>>) {
     let mut kernel = Kernel::EMPTY;
     bench_table(&mut kernel);
     let mut ready = vec![1, 2, 3, 4];
-    let mut calls = Vec::new();
+    let (mut calls, mut met) = (Vec::new(), Vec::new());
     let mut left = random.below(MOST_CALLS as usize + 1);
     while left > 0 {
         let call = random_call(random, &ready);
+        let meets = kernel.forced_meets(call[2] as i32);
         let answer = make(&mut kernel, &call);
+        let passed = call[0] == FSND_DTQ && [E_OK, E_ILUSE].contains(&(answer[0] as i32));
+        met.push(passed.then_some(meets));
         calls.extend(call);
         if answer[0] as i32 == WAITING {
             ready.retain(|&task| task != call[1] as i32);
@@ -105,7 +110,7 @@ fn random_calls(random: &mut Random) -> Vec<u32> {
     }
     let cut = random.mostly(0, 4, &[1, 2, 3, 4, 5, 6, 7]);
     calls.truncate(calls.len().saturating_sub(cut));
-    calls
+    (calls, met)
 }
 
 /// Mostly room for all answers and a little more, sometimes for some of them only.
@@ -127,8 +132,9 @@ pub fn compare() {
     let mut random = Random(SEED);
     let mut codes = [0; CODES.len()];
     let (mut compared, mut releases, mut short) = (0, 0, 0);
+    let mut forced = BTreeMap::new();
     for list in 0..LISTS {
-        let calls = random_calls(&mut random);
+        let (calls, met) = random_calls(&mut random);
         let mut plain_answers = vec![FILLER; random_room(&mut random, &calls)];
         let mut our_answers = plain_answers.clone();
         let answered = run(&calls, &mut plain_answers);
@@ -141,6 +147,10 @@ pub fn compare() {
             releases += u32::from(answer[2] != 0);
             codes[CODES.iter().position(|&code| code == answer[0] as i32).expect("a call's code")] += 1;
         }
+        // The last call may be cut short, and is none then.
+        for met in met.into_iter().take(answered.min(calls.len() / CALL_WORDS)).flatten() {
+            *forced.entry(met).or_insert(0) += 1;
+        }
     }
     println!("Comparison, seed {SEED:#x}: {compared} calls in {LISTS} lists, every word of the answers alike.");
     println!("The answers were filled with {FILLER:#x} before; in {short} lists they had no room for all calls.");
@@ -148,4 +158,5 @@ pub fn compare() {
     for ((name, code), count) in NAMES.iter().zip(CODES).zip(codes) {
         println!("  {name:<8} {code:>4} {count:>8}");
     }
+    println!("What forced sends met: {forced:?}.");
 }

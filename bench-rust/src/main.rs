@@ -3,6 +3,7 @@
 mod clock;
 mod compare;
 mod finding;
+mod forced;
 mod listed;
 mod ours;
 mod plain;
@@ -13,12 +14,12 @@ mod replayed;
 mod stack;
 mod table;
 
-use plain_runs::{Asked, Who};
+use plain_runs::{Asked, Who, FSND_DTQ, PSND_DTQ};
 use std::hint::black_box;
 
 type Work = fn(u32, Who) -> u32;
 
-/// One loop, done by both kernels; a round is a pair of calls, or a verdict on each region.
+/// One loop, done by both kernels; a round is a pair of calls, one call, or a verdict on each region.
 struct Workload {
     name: &'static str,
     calls_a_round: u32,
@@ -40,6 +41,10 @@ const fn pair(name: &'static str, who: Who, ours: Work, plain: Work) -> Workload
     Workload { name, calls_a_round: 2, who, ours, plain }
 }
 
+const fn single(name: &'static str, who: Who, ours: Work, plain: Work) -> Workload {
+    Workload { name, calls_a_round: 1, who, ours, plain }
+}
+
 const fn verdicts(name: &'static str, ours: Work, plain: Work) -> Workload {
     Workload { name, calls_a_round: plain_runs::REGIONS, who: USERS, ours, plain }
 }
@@ -48,12 +53,14 @@ fn starts(size: u32) -> Asked {
     Asked::reading(plain_runs::starts(), size)
 }
 
-const WORKLOADS: [Workload; 10] = [
+const WORKLOADS: [Workload; 13] = [
     pair("signal, poll", USERS, ours::signal_poll, plain_runs::signal_poll),
     pair("wait, signal", USERS, ours::wait_signal, plain_runs::wait_signal),
     pair("refer, set-vector: semaphore", KERNEL, ours::refer_set_semaphore, plain_runs::refer_set_semaphore),
     pair("send, receive", USERS, ours::send_receive, plain_runs::send_receive),
     pair("wait to receive, send", USERS, ours::wait_send, plain_runs::wait_send),
+    pair("forced send, receive", USERS, ours::force_receive, plain_runs::force_receive),
+    single("forced send, full", USERS, ours::force_drop, plain_runs::force_drop),
     pair("refer, set-vector: queue", KERNEL, ours::refer_set_queue, plain_runs::refer_set_queue),
     verdicts(
         "verdict, in its region",
@@ -70,7 +77,18 @@ const WORKLOADS: [Workload; 10] = [
         |rounds, _| ours::verdict(rounds, &starts(PAST_ALL)),
         |rounds, _| plain_runs::verdict(rounds, &starts(PAST_ALL)),
     ),
-    pair("list: wait to receive, send", USERS, |pairs, _| ours::listed(pairs), |pairs, _| plain_runs::listed(pairs)),
+    pair(
+        "list: wait to receive, send",
+        USERS,
+        |pairs, _| ours::listed(pairs, PSND_DTQ),
+        |pairs, _| plain_runs::listed(pairs, PSND_DTQ),
+    ),
+    pair(
+        "list: wait to receive, forced send",
+        USERS,
+        |pairs, _| ours::listed(pairs, FSND_DTQ),
+        |pairs, _| plain_runs::listed(pairs, FSND_DTQ),
+    ),
 ];
 
 const RUNS: usize = 21;
@@ -109,13 +127,14 @@ fn by_turns(ours: impl Fn(u32) -> u32, plain: impl Fn(u32) -> u32, rounds: [u32;
 fn main() {
     let arguments: Vec<String> = std::env::args().skip(1).collect();
     match arguments.iter().map(String::as_str).collect::<Vec<_>>()[..] {
-        [] => [compare::compare, table::table, finding::finding].iter().for_each(|part| part()),
+        [] => [compare::compare, table::table, forced::forced, finding::finding].iter().for_each(|part| part()),
         ["compare"] => compare::compare(),
         ["replay"] => replayed::compare(),
         ["table"] => table::table(),
+        ["force"] => forced::forced(),
         ["find"] => finding::finding(),
         ["turn"] => table::turn(),
         ["stack-probe", name, size] => stack::probe(name, size),
-        _ => panic!("usage: bench-rust [compare | replay | table | find]"),
+        _ => panic!("usage: bench-rust [compare | replay | table | force | find]"),
     }
 }

@@ -1,7 +1,7 @@
 //! The proved kernel's functions in the linked archives.
 
 use crate::finding::Places;
-use crate::plain_runs::{Asked, Who};
+use crate::plain_runs::{Asked, Each, Who};
 
 mod archive {
     extern "C" {
@@ -10,7 +10,27 @@ mod archive {
         pub fn timing_refer_set_semaphore(pairs: u32, task: i32, id: i32) -> u32;
         pub fn timing_send_receive(pairs: u32, task: i32, id: i32) -> u32;
         pub fn timing_wait_send(pairs: u32, waiter: i32, task: i32, id: i32) -> u32;
+        pub fn timing_force_receive(pairs: u32, task: i32, id: i32) -> u32;
+        pub fn timing_force_drop(rounds: u32, task: i32, id: i32) -> u32;
         pub fn timing_refer_set_queue(pairs: u32, task: i32, id: i32) -> u32;
+        pub fn timing_send_each(
+            rounds: u32,
+            capacity: u32,
+            task: i32,
+            before: *const i32,
+            before_len: usize,
+            ids: *const i32,
+            ids_len: usize,
+        ) -> u32;
+        pub fn timing_force_each(
+            rounds: u32,
+            capacity: u32,
+            task: i32,
+            before: *const i32,
+            before_len: usize,
+            ids: *const i32,
+            ids_len: usize,
+        ) -> u32;
         pub fn timing_verdict(
             rounds: u32,
             domains: *const i32,
@@ -53,8 +73,28 @@ pub fn wait_send(pairs: u32, who: Who) -> u32 {
     unsafe { archive::timing_wait_send(pairs, who.waiter, who.task, who.id) }
 }
 
+pub fn force_receive(pairs: u32, who: Who) -> u32 {
+    unsafe { archive::timing_force_receive(pairs, who.task, who.id) }
+}
+
+pub fn force_drop(rounds: u32, who: Who) -> u32 {
+    unsafe { archive::timing_force_drop(rounds, who.task, who.id) }
+}
+
 pub fn refer_set_queue(pairs: u32, who: Who) -> u32 {
     unsafe { archive::timing_refer_set_queue(pairs, who.task, who.id) }
+}
+
+pub fn send_each(rounds: u32, each: &Each) -> u32 {
+    let Each { capacity, task, before, ids } = each;
+    let (b, i) = (before.as_ptr(), ids.as_ptr());
+    unsafe { archive::timing_send_each(rounds, *capacity, *task, b, before.len(), i, ids.len()) }
+}
+
+pub fn force_each(rounds: u32, each: &Each) -> u32 {
+    let Each { capacity, task, before, ids } = each;
+    let (b, i) = (before.as_ptr(), ids.as_ptr());
+    unsafe { archive::timing_force_each(rounds, *capacity, *task, b, before.len(), i, ids.len()) }
 }
 
 pub fn verdict(rounds: u32, asked: &Asked) -> u32 {
@@ -74,6 +114,6 @@ pub fn run(calls: &[u32], answers: &mut [u32]) -> usize {
     unsafe { archive::host_run(calls.as_ptr(), calls.len(), answers.as_mut_ptr(), answers.len()) }
 }
 
-pub fn listed(pairs: u32) -> u32 {
-    crate::listed::wait_release(run, pairs)
+pub fn listed(pairs: u32, send: u32) -> u32 {
+    crate::listed::wait_release(run, pairs, send)
 }

@@ -12,6 +12,7 @@ pub const E_ID: Er = -18;
 pub const E_CTX: Er = -25;
 pub const E_MACV: Er = -26;
 pub const E_OACV: Er = -27;
+pub const E_ILUSE: Er = -28;
 pub const E_NOMEM: Er = -33;
 pub const E_NOID: Er = -34;
 pub const E_OBJ: Er = -41;
@@ -90,6 +91,7 @@ fn admits(pattern: u32, domain: i32) -> bool {
 }
 
 /// Objects of one kind in the order of their entries, numbered from 1.
+#[derive(Clone)]
 struct Table<T, const N: usize> {
     entries: [T; N],
     count: usize,
@@ -270,6 +272,7 @@ impl Region {
 }
 
 /// The whole kernel; the domain of a semaphore or queue is not kept, as only its default vector needs it.
+#[derive(Clone)]
 pub struct Kernel {
     domains: i32,
     unit: u32,
@@ -461,6 +464,35 @@ impl Kernel {
 
     pub fn snd_dtq(&mut self, caller: i32, dtqid: i32, word: u32) -> Result<Done, Er> {
         self.send(caller, dtqid, word, true)
+    }
+
+    /// Forced send never waits: a full buffer loses its oldest word, whoever else waits to send.
+    pub fn fsnd_dtq(&mut self, caller: i32, dtqid: i32, word: u32) -> Result<Done, Er> {
+        let (_, queue) = self.enter(caller, &self.queues, dtqid, |q| q.vector.normal1)?;
+        let queue = &mut self.queues.entries[queue];
+        ensure(queue.capacity > 0, E_ILUSE)?;
+        if let Some(receiver) = queue.receivers.release(&mut self.tasks.entries) {
+            return Ok(Done::releasing(receiver, word));
+        }
+        if queue.count == queue.capacity {
+            queue.pop(&self.words);
+        }
+        queue.push(&mut self.words, word);
+        Ok(Done::OK)
+    }
+
+    /// What a forced send meets at a queue once its checks are passed: no call, only to count what random calls came upon.
+    pub fn forced_meets(&self, dtqid: i32) -> &'static str {
+        let Ok(queue) = self.queues.index(dtqid) else { return "no queue" };
+        let Queue { capacity, count, senders, receivers, .. } = self.queues.entries[queue];
+        match (capacity, receivers.first, capacity - count, senders.first) {
+            (0, 0, ..) => "capacity 0",
+            (0, ..) => "capacity 0, receiver waits",
+            (1.., 1.., ..) => "receiver waits",
+            (.., 1.., _) => "room",
+            (.., 0) => "full",
+            _ => "full, sender waits",
+        }
     }
 
     fn receive(&mut self, caller: i32, dtqid: i32, patient: bool) -> Result<Done, Er> {

@@ -5,7 +5,7 @@ use crate::plain::{
 };
 use std::hint::black_box;
 
-/// The functions' numbers in a list of calls, in document 01's order of the calls.
+/// The functions' numbers in a list of calls: document 01's calls in its order, behind them those of later requests.
 pub const SIG_SEM: u32 = 1;
 pub const POL_SEM: u32 = 2;
 pub const WAI_SEM: u32 = 3;
@@ -17,6 +17,7 @@ pub const PRCV_DTQ: u32 = 8;
 pub const RCV_DTQ: u32 = 9;
 pub const REF_DTQ: u32 = 10;
 pub const SAC_DTQ: u32 = 11;
+pub const FSND_DTQ: u32 = 12;
 
 pub const CALL_WORDS: usize = 8;
 pub const ANSWER_WORDS: usize = 11;
@@ -132,6 +133,30 @@ pub fn wait_send(pairs: u32, who: Who) -> u32 {
     sum
 }
 
+/// As `send_receive`, by force.
+pub fn force_receive(pairs: u32, who: Who) -> u32 {
+    let mut kernel = Kernel::EMPTY;
+    bench_table(&mut kernel);
+    let mut sum: u32 = 0;
+    for round in 0..pairs {
+        let (kernel, _, task, id) = unknown(&mut kernel, who);
+        let _ = kernel.fsnd_dtq(task, id, round);
+        sum = sum.wrapping_add(word_of(kernel.prcv_dtq(task, id)));
+    }
+    sum
+}
+
+/// As soon as the queue is full, each call drops the oldest word; the oldest at the end.
+pub fn force_drop(rounds: u32, who: Who) -> u32 {
+    let mut kernel = Kernel::EMPTY;
+    bench_table(&mut kernel);
+    for round in 0..rounds {
+        let (kernel, _, task, id) = unknown(&mut kernel, who);
+        let _ = kernel.fsnd_dtq(task, id, round);
+    }
+    word_of(kernel.prcv_dtq(who.task, who.id))
+}
+
 pub fn refer_set_queue(pairs: u32, who: Who) -> u32 {
     let mut kernel = Kernel::EMPTY;
     bench_table(&mut kernel);
@@ -145,8 +170,52 @@ pub fn refer_set_queue(pairs: u32, who: Who) -> u32 {
     sum
 }
 
-pub fn listed(pairs: u32) -> u32 {
-    crate::listed::wait_release(run, pairs)
+/// Queues of the largest capacity, as many as there can be.
+pub const EACH_QUEUES: i32 = 8;
+
+/// One call on each queue of a list, from a table whose queues have had forced sends.
+#[derive(Debug)]
+pub struct Each {
+    pub capacity: u32,
+    pub task: i32,
+    pub before: Vec<i32>,
+    pub ids: Vec<i32>,
+}
+
+/// The number of answers E_OK; every round begins from the same table.
+fn each(rounds: u32, each: &Each, call: impl Fn(&mut Kernel, i32, i32, u32) -> Result<Done, Er>) -> u32 {
+    let mut start = Kernel::EMPTY;
+    build(&mut start, 1, |kernel| {
+        kernel.add_task(1)?;
+        // Queues that are too large are refused, and the table has none.
+        for _ in 0..EACH_QUEUES {
+            let _ = kernel.add_queue(1, 0, each.capacity, None);
+        }
+        Ok(())
+    });
+    for &id in &each.before {
+        let _ = start.fsnd_dtq(each.task, id, 0);
+    }
+    let mut good = 0;
+    for round in 0..rounds {
+        let mut kernel = black_box(&start).clone();
+        for &id in &each.ids {
+            good += u32::from(call(&mut kernel, each.task, id, round).is_ok());
+        }
+    }
+    good
+}
+
+pub fn send_each(rounds: u32, given: &Each) -> u32 {
+    each(rounds, given, Kernel::psnd_dtq)
+}
+
+pub fn force_each(rounds: u32, given: &Each) -> u32 {
+    each(rounds, given, Kernel::fsnd_dtq)
+}
+
+pub fn listed(pairs: u32, send: u32) -> u32 {
+    crate::listed::wait_release(run, pairs, send)
 }
 
 /// As many regions as there may be, each touching the next and equal to it.
@@ -230,6 +299,7 @@ pub fn make(kernel: &mut Kernel, call: &[u32]) -> Answer {
         RCV_DTQ => kernel.rcv_dtq(task, id).map(encode),
         REF_DTQ => kernel.ref_dtq(task, id).map(encode_referred),
         SAC_DTQ => kernel.sac_dtq(task, id, vector).map(encode),
+        FSND_DTQ => kernel.fsnd_dtq(task, id, word).map(encode),
         _ => Err(E_RSFN),
     };
     answer.unwrap_or_else(refused)

@@ -1,4 +1,5 @@
-//! The bench runs of document 01, with the limits of request T-07 and the units of T-06, on the ordinary kernel.
+//! The bench runs of document 01, with the limits of request T-07 and the units of T-06, and forced send (T-05), on the
+//! ordinary kernel.
 
 use crate::plain::*;
 use crate::plain_runs::bench_table;
@@ -103,4 +104,110 @@ fn touching_regions() {
     assert_eq!([reads(0x3000, 1), reads(0x2FFF, 0x1002)], [Err(E_NOEXS), Err(E_OBJ)]);
     assert_eq!([reads(0x4000, 0x3000), reads(0x5FFF, 2)], [Ok(()); 2]);
     assert_eq!([0x6FFF, 0x7FFF, 0x8FFF].map(|base| reads(base, 2)), [Err(E_OBJ); 3]);
+}
+
+/// Tasks 1 and 2 of domain 1, task 3 of domain 2, task 4 of the kernel; a queue for domain 1, and one to which it may not send.
+fn forced_table(capacity: u32) -> Kernel {
+    let mut k = Kernel::EMPTY;
+    assert_eq!(k.fresh(2, 1), Ok(()));
+    assert_eq!([1, 1, 2, TDOM_KERNEL].map(|domain| k.add_task(domain)), [Ok(()); 4]);
+    assert_eq!(k.add_queue(1, 0, capacity, None), Ok(()));
+    assert_eq!(k.add_queue(TDOM_KERNEL, 0, 1, Some(Vector::new(0, 1, 1, 1))), Ok(()));
+    assert_eq!(k.close(), Ok(()));
+    k
+}
+
+/// First sender, first receiver, number of buffered words of queue 1.
+fn queue_1(k: &Kernel) -> (u32, u32, u32) {
+    let told = k.ref_dtq(4, 1).expect("the kernel may refer");
+    (told.first_waiter, told.first_receiver, told.count)
+}
+
+/// The words that poll-receives hand out, until there is none.
+fn drained(k: &mut Kernel) -> Vec<u32> {
+    std::iter::from_fn(|| k.prcv_dtq(4, 1).ok().map(|done| done.word)).collect()
+}
+
+#[test]
+fn forced_to_a_receiver() {
+    let mut k = forced_table(2);
+    assert_eq!([k.rcv_dtq(2, 1), k.rcv_dtq(4, 1)], [WAITS; 2]);
+    assert_eq!([k.fsnd_dtq(1, 1, 7), k.fsnd_dtq(1, 1, 8)], [done(0, 2, 7), done(0, 4, 8)]);
+    assert_eq!(queue_1(&k), (0, 0, 0));
+    assert_eq!([k.fsnd_dtq(1, 1, 9), k.prcv_dtq(2, 1)], [OK, done(9, 0, 0)]);
+}
+
+#[test]
+fn forced_into_room() {
+    let mut k = forced_table(3);
+    assert_eq!([k.fsnd_dtq(1, 1, 7), k.snd_dtq(1, 1, 8), k.fsnd_dtq(4, 1, 9)], [OK; 3]);
+    assert_eq!(queue_1(&k), (0, 0, 3));
+    assert_eq!(drained(&mut k), [7, 8, 9]);
+}
+
+/// More than a turn of the ring, so that the oldest word stands at each of its places.
+#[test]
+fn forced_into_a_full_buffer() {
+    for capacity in [1, 2, 3, 16, 256] {
+        let mut k = forced_table(capacity);
+        for word in 0..3 * capacity + 1 {
+            assert_eq!(k.fsnd_dtq(1, 1, word), OK);
+            assert_eq!(queue_1(&k), (0, 0, (word + 1).min(capacity)));
+        }
+        assert_eq!(drained(&mut k), (2 * capacity + 1..3 * capacity + 1).collect::<Vec<_>>());
+        assert_eq!([k.fsnd_dtq(1, 1, 5), k.prcv_dtq(1, 1)], [OK, done(5, 0, 0)]);
+    }
+}
+
+/// The word 0, one dropped and one kept, is a word like any other.
+#[test]
+fn forced_with_capacity_1() {
+    let mut k = forced_table(1);
+    assert_eq!([0, 7, 0].map(|word| k.fsnd_dtq(1, 1, word)), [OK; 3]);
+    assert_eq!([k.prcv_dtq(1, 1), k.prcv_dtq(1, 1)], [done(0, 0, 0), Err(E_TMOUT)]);
+    assert_eq!([k.fsnd_dtq(1, 1, 7), k.fsnd_dtq(1, 1, u32::MAX)], [OK; 2]);
+    assert_eq!(k.prcv_dtq(1, 1), done(u32::MAX, 0, 0));
+}
+
+/// The waiting senders stay, in their order and with their words, and enter behind the forced word.
+#[test]
+fn forced_past_senders() {
+    let mut k = forced_table(2);
+    assert_eq!([k.snd_dtq(1, 1, 1), k.snd_dtq(1, 1, 2)], [OK; 2]);
+    assert_eq!([k.snd_dtq(1, 1, 3), k.snd_dtq(2, 1, 4)], [WAITS; 2]);
+    assert_eq!(k.fsnd_dtq(4, 1, 5), OK);
+    assert_eq!(queue_1(&k), (1, 0, 2));
+    assert_eq!(k.fsnd_dtq(1, 1, 6), Err(E_CTX));
+    assert_eq!([k.prcv_dtq(4, 1), k.prcv_dtq(4, 1)], [done(2, 1, 0), done(5, 2, 0)]);
+    assert_eq!(drained(&mut k), [3, 4]);
+}
+
+#[test]
+fn forced_with_capacity_0() {
+    let mut k = forced_table(0);
+    assert_eq!(k.fsnd_dtq(1, 1, 7), Err(E_ILUSE));
+    assert_eq!(k.rcv_dtq(2, 1), WAITS);
+    assert_eq!(k.fsnd_dtq(1, 1, 7), Err(E_ILUSE));
+    assert_eq!(queue_1(&k), (0, 2, 0));
+    assert_eq!(k.psnd_dtq(1, 1, 8), done(0, 2, 8));
+    assert_eq!(k.snd_dtq(1, 1, 9), WAITS);
+    assert_eq!([k.fsnd_dtq(4, 1, 7), k.prcv_dtq(2, 1)], [Err(E_ILUSE), done(9, 1, 0)]);
+}
+
+/// Each check comes before the next, and that of the capacity last; a refusal drops nothing.
+#[test]
+fn forced_and_refused() {
+    let mut k = forced_table(1);
+    assert_eq!(k.fsnd_dtq(1, 1, 7), OK);
+    assert_eq!([0, 5, -1].map(|task| k.fsnd_dtq(task, 17, 8)), [Err(E_CTX); 3]);
+    assert_eq!([-1, 0, 17].map(|id| k.fsnd_dtq(3, id, 8)), [Err(E_ID); 3]);
+    assert_eq!([3, 16].map(|id| k.fsnd_dtq(3, id, 8)), [Err(E_NOEXS); 2]);
+    assert_eq!(k.fsnd_dtq(3, 1, 8), Err(E_OACV));
+    assert_eq!([k.fsnd_dtq(1, 2, 8), k.fsnd_dtq(4, 2, 8)], [Err(E_OACV), OK]);
+    assert_eq!(drained(&mut k), [7]);
+    let mut k = forced_table(0);
+    assert_eq!([k.fsnd_dtq(3, 1, 8), k.fsnd_dtq(1, 1, 8)], [Err(E_OACV), Err(E_ILUSE)]);
+    let mut open = Kernel::EMPTY;
+    assert_eq!([open.fresh(1, 1), open.add_task(1), open.add_queue(1, 0, 1, None)], [Ok(()); 3]);
+    assert_eq!(open.fsnd_dtq(1, 1, 8), Err(E_CTX));
 }

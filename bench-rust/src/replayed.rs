@@ -32,6 +32,8 @@ struct Script {
     domains: usize,
     tasks: Vec<i32>,
     judged: BTreeMap<i32, Judged>,
+    /// What the forced sends met that passed their checks.
+    forced: BTreeMap<&'static str, u32>,
 }
 
 impl Script {
@@ -49,6 +51,17 @@ impl Script {
         self.add(format!("task {domain}"), code(answer));
     }
 
+    /// Whether the forced send was taken.
+    fn force(&mut self, kernel: &mut Kernel, task: i32, id: i32, word: u32) -> bool {
+        let meets = kernel.forced_meets(id);
+        let answer = kernel.fsnd_dtq(task, id, word);
+        if matches!(answer, Ok(_) | Err(E_ILUSE)) {
+            *self.forced.entry(meets).or_default() += 1;
+        }
+        self.add(format!("fsnd_dtq {task} {id} {word}"), call(answer));
+        answer.is_ok()
+    }
+
     fn user(&self, random: &mut Random) -> i32 {
         random.below(self.domains) as i32 + 1
     }
@@ -61,7 +74,7 @@ impl Script {
         let judged = self.judged.entry(domain).or_default();
         match outcome {
             Some("E_OACV") => judged.denied += 1,
-            Some("E_OK" | "waiting" | "E_TMOUT" | "E_QOVR") => judged.admitted += 1,
+            Some("E_OK" | "waiting" | "E_TMOUT" | "E_QOVR" | "E_ILUSE") => judged.admitted += 1,
             _ => {}
         }
     }
@@ -76,6 +89,7 @@ fn name(code: Er) -> &'static str {
         E_CTX => "E_CTX",
         E_MACV => "E_MACV",
         E_OACV => "E_OACV",
+        E_ILUSE => "E_ILUSE",
         E_NOMEM => "E_NOMEM",
         E_NOID => "E_NOID",
         E_OBJ => "E_OBJ",
@@ -227,17 +241,35 @@ fn semaphore_call(random: &mut Random, kernel: &mut Kernel, script: &mut Script,
 }
 
 fn queue_call(random: &mut Random, kernel: &mut Kernel, script: &mut Script, task: i32, id: i32) {
-    let word = random.pick(&[0, 1, 700, u32::MAX]);
-    match random.below(7) {
+    let any = random.next();
+    let word = random.pick(&[0, 1, 700, u32::MAX, any, any, any]);
+    match random.below(9) {
         0 | 1 => script.add(format!("psnd_dtq {task} {id} {word}"), call(kernel.psnd_dtq(task, id, word))),
         2 => script.add(format!("snd_dtq {task} {id} {word}"), call(kernel.snd_dtq(task, id, word))),
         3 => script.add(format!("prcv_dtq {task} {id}"), call(kernel.prcv_dtq(task, id))),
         4 => script.add(format!("rcv_dtq {task} {id}"), call(kernel.rcv_dtq(task, id))),
-        5 => script.add(format!("ref_dtq {task} {id}"), refer(kernel.ref_dtq(task, id), "sender", Some("receiver"))),
+        5 | 6 => {
+            script.force(kernel, task, id, word);
+        }
+        7 => script.add(format!("ref_dtq {task} {id}"), refer(kernel.ref_dtq(task, id), "sender", Some("receiver"))),
         _ => {
             let vector = random_vector(random);
             let answer = call(kernel.sac_dtq(task, id, vector));
             script.add(format!("sac_dtq {task} {id} {}", patterns(vector, " ")), answer);
+        }
+    }
+}
+
+/// Forced sends to one queue, some of them more than any queue can hold, then poll-receives; a refusal ends each.
+fn burst(random: &mut Random, kernel: &mut Kernel, script: &mut Script) {
+    let (task, id) = (random.below(TASKS) as i32 + 1, random.below(8) as i32 + 1);
+    let most = random.pick(&[5, 5, 20, 300]);
+    let _ = (0..most).all(|word| script.force(kernel, task, id, word));
+    for _ in 0..random.below(most as usize + 1) {
+        let answer = kernel.prcv_dtq(task, id);
+        script.add(format!("prcv_dtq {task} {id}"), call(answer));
+        if answer.is_err() {
+            return;
         }
     }
 }
@@ -286,6 +318,9 @@ fn random_script(random: &mut Random) -> Script {
         let task = random.mostly(good, 25, &ENDS);
         let good = random.pick(&[1, 1, 1, 2, 2, 3, 4, 5, 7]);
         let id = random.mostly(good, 25, &ENDS);
+        if random.one_in(60) {
+            burst(random, &mut kernel, &mut script);
+        }
         match random.below(12) {
             0 => verdict(random, &mut kernel, &mut script, &last),
             1 => entry(random, &mut kernel, &mut script, &mut last),
@@ -315,6 +350,7 @@ fn replay(commands: &str) -> String {
 pub fn compare() {
     let (mut random, mut lines, mut codes) = (Random::new(SEED), 0, BTreeMap::new());
     let mut judged: BTreeMap<i32, Judged> = BTreeMap::new();
+    let mut forced = BTreeMap::new();
     for number in 0..SCRIPTS {
         let script = random_script(&mut random);
         let output = replay(&script.commands);
@@ -323,6 +359,7 @@ pub fn compare() {
         }
         assert_eq!(output.lines().count(), script.lines.len(), "script {number}: how many lines");
         lines += script.lines.len();
+        script.forced.into_iter().for_each(|(met, count)| *forced.entry(met).or_insert(0) += count);
         for (domain, Judged { admitted, denied }) in script.judged {
             let sum = judged.entry(domain).or_default();
             sum.admitted += admitted;
@@ -339,4 +376,5 @@ pub fn compare() {
     let users = (1..=MAX_DOMAINS).map(|domain| judged.get(&domain).copied().unwrap_or_default());
     let (admitted, denied) = users.fold((u32::MAX, u32::MAX), |(a, d), one| (a.min(one.admitted), d.min(one.denied)));
     println!("Of each user domain, 1 to {MAX_DOMAINS}, at least {admitted} calls were admitted and {denied} denied.");
+    println!("What forced sends met: {forced:?}.");
 }

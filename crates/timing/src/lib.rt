@@ -2,6 +2,7 @@
 // does not know them, and every call of the kernel is made somewhere, so that it does not know what is asked either.
 pub mod count;
 pub mod dtq;
+pub mod each;
 pub mod mem;
 pub mod sem;
 pub mod table;
