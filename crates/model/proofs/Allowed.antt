@@ -163,7 +163,7 @@ module _ (s₀ s₁ s₂ s found : State) (later h : History) (t n : ℤ) (a : A
   released op = record { before = found; call = call t op; answer = a }
 
   ends : (op : Op) → Demand3 s₀ (later ++ released op ∷ h) s → EndsWait (released op) h r
-  ends op d = all-each (EndsWait (released op) h) (a .released) before behind r rs (each-at ReleasesWaiters later (released op) h (d .releases))
+  ends op d = all-each (EndsWait (released op) h) (a .released) before behind r rs (each-at ReleasesWaiters later (released op) h (d .releases) .each)
 
   -- it waited there
   abbrev Waited : Side → Type 0

@@ -1,7 +1,7 @@
--- Document 01's order of a queue's words follows from request T-05's, where no accepted send is forced and none is withdrawn. Assumes nothing.
-use mathlib.Core.Path.{_≡_, refl, sym, ap, _∙_, subst}
-use mathlib.Core.Bool.{Bool, true, false, cond, not}
-use mathlib.Core.List.{List, [], _∷_, _++_, map, append-assoc}
+-- What request T-05's order says of sends that are not forced; document 01's order follows from it, where no accepted send is forced and none is withdrawn. Assumes nothing.
+use mathlib.Core.Path.{_≡_, refl, sym, ap, _∙_}
+use mathlib.Core.Bool.{Bool, true, false, cond, not, _||_}
+use mathlib.Core.List.{List, [], _∷_, _++_, map, append-assoc, head-eq-of-cons-eq, tail-eq-of-cons-eq}
 use mathlib.Core.Option.{Option, none, some}
 use Prim.Native.Nat.{ℕ, suc, _<_}
 use native.Mathlib.Omega.{arith}
@@ -10,25 +10,25 @@ use lib.IntN.{ℤ}
 use lib.ListN.{length, take}
 use borrow.Author.Tests.{ltb-true, ltb-false}
 use Rattle.itron.specs.Codes.{Code, ok, waiting, error}
-use Rattle.model.specs.Lists.{All, keep, consIf, words, gathered}
+use Rattle.model.specs.Lists.{All, keep, consIf, anyOf, words, gathered}
 use Rattle.model.specs.State.{Queue, Waiter, State, queueAt}
 use Rattle.model.specs.Answers.{whenOk, whenWaiting, whenAccepted}
 use Rattle.model.specs.Acts.{Act, own, refer, setVector}
 use Rattle.model.specs.Queues.{QueueCall, send, receive, forcedSend}
 use Rattle.model.specs.Waits.{senders}
 use Rattle.model.specs.History.{History, Made, ofAsked}
-use Rattle.model.specs.Sends.{Sent, sendIn, sendOf, wordOf, unforced, times, Before, Ascending, accepts, shown, notShown, waitingSends, withdrawn, entersIn, enters, entered, handed, fullIn, findsFull, buffered, leaves}
+use Rattle.model.specs.Sends.{Sent, sendIn, sendOf, wordOf, unforced, times, Before, Ascending, accepts, accepted, shown, notShown, waitingSends, freedBy, withdrawn, entersIn, enters, entered, handed, fullIn, findsFull, buffered, leaves}
 use Rattle.model.specs.QueueClaims.{byQueue, Sender, wordsIn, Carried}
 use Rattle.model.specs.Demand3.{Demand3}
-use Rattle.model.proofs.Lists.{no-both, eqb-same, eqb-no, map-append, all-keep, all-append, all-parts, all-weaker}
-use Rattle.model.proofs.Sends.{Of, send-of, accepted, accepted-ascends, accepted-once, entered-placed, times-append, words-of, words-in}
+use Rattle.model.proofs.Lists.{no-both, cons-ne, eq-of, eqb-same, eqb-no, map-append, all-keep, all-append, all-parts, all-weaker}
+use Rattle.model.proofs.Sends.{Of, send-of, accepted-ascends, ascending-keep, accepted-once, entered-placed, times-append, words-of, words-in}
 
 -- ---- what is true of every accepted send is true of those that entered and of those that wait
 module _ (P : Sent → Type 0) where
   accepted-too : (m : Made QueueCall) (h : List (Made QueueCall)) → All P (accepts m h) → All P (waitingSends h) → All P (enters m h) × All P (whenWaiting [] (sendOf m h) (m .answer .code))
   accepted-too m h f g = go (m .answer .code) f
     where
-      by : (a : Option (Act QueueCall)) → All P (ofAsked [] (sendIn (length h) (m .caller)) a) → All P (ofAsked [] (entersIn (ofAsked [] (sendIn (length h) (m .caller)) a) (keep (shown (m .answer .released)) (waitingSends h))) a)
+      by : (a : Option (Act QueueCall)) → All P (ofAsked [] (sendIn (length h) (m .caller)) a) → All P (ofAsked [] (entersIn (ofAsked [] (sendIn (length h) (m .caller)) a) (freedBy m h)) a)
       by none k = tt
       by (some (own (send p w))) k = k
       by (some (own (receive p))) k = all-keep P (shown (m .answer .released)) (waitingSends h) g
@@ -37,7 +37,7 @@ module _ (P : Sent → Type 0) where
       by (some (setVector v)) k = tt
 
       go : (c : Code) → All P (whenAccepted [] (sendOf m h) c)
-          → All P (whenOk [] (ofAsked [] (entersIn (sendOf m h) (keep (shown (m .answer .released)) (waitingSends h))) (m .asked)) c) × All P (whenWaiting [] (sendOf m h) c)
+          → All P (whenOk [] (ofAsked [] (entersIn (sendOf m h) (freedBy m h)) (m .asked)) c) × All P (whenWaiting [] (sendOf m h) c)
       go ok k = (by (m .asked) k, tt)
       go waiting k = (tt, k)
       go (error e) k = (tt, tt)
@@ -90,31 +90,24 @@ same-calls (x ∷ l) (y ∷ m) a b h = λ i. e i ∷ same-calls l m (a .1) (b .1
         go true f = omega (arith, f)
         go false f = f
 
--- ---- the word of a send is that of its call
-abbrev firstWord : List Sent → ℕ
-firstWord [] = 0
-firstWord (x ∷ l) = x .word
+-- ---- a send is told by its call
+abbrev sendAt : ℕ → List (Made QueueCall) → List Sent
+sendAt k [] = []
+sendAt k (m ∷ h) = cond (eqb k (length h)) (sendOf m h) (sendAt k h)
 
-abbrev wordAt : ℕ → List (Made QueueCall) → ℕ
-wordAt k [] = 0
-wordAt k (m ∷ h) = cond (eqb k (length h)) (firstWord (sendOf m h)) (wordAt k h)
-
--- of a call among these
+-- it is the one of a call among these
 abbrev Known : List (Made QueueCall) → Sent → Type 0
-Known h x = (x .call < length h) × (x .word ≡ wordAt (x .call) h)
+Known h x = (x .call < length h) × (sendAt (x .call) h ≡ x ∷ [])
 
 older-known : (m : Made QueueCall) (h : List (Made QueueCall)) (x : Sent) → Known h x → Known (m ∷ h) x
-older-known m h x f = (omega (arith, f .0), f .1 ∙ ap (λ (b : Bool). cond b (firstWord (sendOf m h)) (wordAt (x .call) h)) (sym (eqb-no (x .call) (length h) (λ e. omega (arith, e, f .0)))))
+older-known m h x f = (omega (arith, f .0), ap (λ (b : Bool). cond b (sendOf m h) (sendAt (x .call) h)) (eqb-no (x .call) (length h) (λ e. omega (arith, e, f .0))) ∙ f .1)
 
 sent-known : (m : Made QueueCall) (h : List (Made QueueCall)) → All (Known (m ∷ h)) (accepts m h)
 sent-known m h = go (m .answer .code)
   where
-    newest : cond (eqb (length h) (length h)) (firstWord (sendOf m h)) (wordAt (length h) h) ≡ firstWord (sendOf m h)
-    newest = ap (λ (b : Bool). cond b (firstWord (sendOf m h)) (wordAt (length h) h)) (eqb-same (length h))
-
-    one : (l : List Sent) → Of (length h) l → firstWord (sendOf m h) ≡ firstWord l → All (Known (m ∷ h)) l
+    one : (l : List Sent) → Of (length h) l → sendOf m h ≡ l → All (Known (m ∷ h)) l
     one [] o f = tt
-    one (x ∷ []) o f = ((omega (arith, o .0 .0), sym f ∙ sym newest ∙ ap (λ (k : ℕ). wordAt k (m ∷ h)) (sym (o .0 .0))), tt)
+    one (x ∷ []) o f = ((omega (arith, o .0 .0), ap (λ (b : Bool). cond b (sendOf m h) (sendAt (x .call) h)) (ap (λ (k : ℕ). eqb k (length h)) (o .0 .0) ∙ eqb-same (length h)) ∙ f), tt)
     one (x ∷ (y ∷ l)) o f = absurd (omega (arith, o .1))
 
     go : (k : Code) → All (Known (m ∷ h)) (whenAccepted [] (sendOf m h) k)
@@ -126,9 +119,65 @@ accepted-known : (h : List (Made QueueCall)) → All (Known h) (accepted h)
 accepted-known [] = tt
 accepted-known (m ∷ h) = all-append (Known (m ∷ h)) (accepted h) (accepts m h) (all-weaker (Known h) (Known (m ∷ h)) (older-known m h) (accepted h) (accepted-known h)) (sent-known m h)
 
-words-by-call : (h : List (Made QueueCall)) (l : List Sent) → All (Known h) l → map wordOf l ≡ map (λ k. wordAt k h) (calls l)
-words-by-call h [] f = refl
-words-by-call h (x ∷ l) f = λ i. f .0 .1 i ∷ words-by-call h l (f .1) i
+-- so are those that entered and those that wait
+abbrev placed : List (Made QueueCall) → List Sent
+placed h = entered h ++ waitingSends h
+
+placed-known : (h : List (Made QueueCall)) → All (Known h) (placed h)
+placed-known h = let k = entered-too (Known h) h (accepted-known h) in all-append (Known h) (entered h) (waitingSends h) (k .0) (k .1)
+
+-- of the same calls, the same sends
+same-sends : (h : List (Made QueueCall)) (l m : List Sent) → All (Known h) l → All (Known h) m → calls l ≡ calls m → l ≡ m
+same-sends h [] [] f g e = refl
+same-sends h [] (y ∷ m) f g e = absurd (cons-ne refl (sym e))
+same-sends h (x ∷ l) [] f g e = absurd (cons-ne refl e)
+same-sends h (x ∷ l) (y ∷ m) f g e = λ i. head-eq-of-cons-eq (sym (f .0 .1) ∙ ap (λ (k : ℕ). sendAt k h) (head-eq-of-cons-eq e) ∙ g .0 .1) i ∷ same-sends h l m (f .1) (g .1) (tail-eq-of-cons-eq e) i
+
+-- ---- those that are not forced
+abbrev forcedAt : ℕ → List (Made QueueCall) → Bool
+forcedAt k h = anyOf (λ (x : Sent). x .forced) (sendAt k h)
+
+known-forced : (h : List (Made QueueCall)) (x : Sent) → Known h x → x .forced ≡ forcedAt (x .call) h
+known-forced h x f = or-false (x .forced) ∙ ap (anyOf (λ (y : Sent). y .forced)) (sym (f .1))
+  where
+    or-false : (b : Bool) → b ≡ b || false
+    or-false true = refl
+    or-false false = refl
+
+-- of a call they are all of it or none
+unforced-times : (h : List (Made QueueCall)) (k : ℕ) (l : List Sent) → All (Known h) l → times k (keep unforced l) ≡ cond (forcedAt k h) 0 (times k l)
+unforced-times h k [] f = go (forcedAt k h)
+  where
+    go : (b : Bool) → 0 ≡ cond {A = ℕ} b 0 0
+    go true = refl
+    go false = refl
+unforced-times h k (x ∷ l) f = go (eqb k (x .call)) refl (x .forced) (known-forced h x (f .0)) (forcedAt k h) refl (unforced-times h k l (f .1))
+  where
+    -- it is the first, is of call k or not, and forced or not
+    counted : (b : Bool) → eqb k (x .call) ≡ b → length (consIf (eqb k (x .call)) x (keep (λ (u : Sent). eqb k (u .call)) (keep unforced l))) ≡ length (consIf b x (keep (λ (u : Sent). eqb k (u .call)) (keep unforced l)))
+    counted b e = ap (λ (c : Bool). length (consIf c x (keep (λ (u : Sent). eqb k (u .call)) (keep unforced l)))) e
+
+    go : (b : Bool) → eqb k (x .call) ≡ b → (y : Bool) → y ≡ forcedAt (x .call) h → (z : Bool) → forcedAt k h ≡ z → times k (keep unforced l) ≡ cond z 0 (times k l)
+        → length (keep (λ (u : Sent). eqb k (u .call)) (consIf (not y) x (keep unforced l))) ≡ cond z 0 (length (consIf b x (keep (λ (u : Sent). eqb k (u .call)) l)))
+    go true e true j true i r = r
+    go true e true j false i r = absurd (no-both (sym (j ∙ ap (λ (n : ℕ). forcedAt n h) (sym (eq-of k (x .call) e)))) i)
+    go true e false j true i r = absurd (no-both i (sym (j ∙ ap (λ (n : ℕ). forcedAt n h) (sym (eq-of k (x .call) e)))))
+    go true e false j false i r = counted true e ∙ ap suc r
+    go false e true j true i r = r
+    go false e true j false i r = r
+    go false e false j true i r = counted false e ∙ r
+    go false e false j false i r = counted false e ∙ r
+
+module _ {domain : ℕ → ℤ} {x : Queue} {h : List (Made QueueCall)} {buffer : List ℕ} {senders : List Waiter} (d : Carried domain x h buffer senders) (z : withdrawn h ≡ []) where
+  -- every accepted send entered or waits, each call's once
+  placed-once : (k : ℕ) → times k (placed h) ≡ times k (accepted h)
+  placed-once k = omega (arith, times-append k (entered h) (waitingSends h), entered-placed (x .capacity) k h, d .placed k, ap (times k) z, accepted-once k h)
+
+  -- "Sends not forced still enter or pass in call order", and those that wait come behind: all of them, in the order of their calls
+  pub unforced-order : keep unforced (entered h ++ waitingSends h) ≡ keep unforced (accepted h)
+  unforced-order = same-sends h (keep unforced (placed h)) (keep unforced (accepted h)) (all-keep (Known h) unforced (placed h) (placed-known h)) (all-keep (Known h) unforced (accepted h) (accepted-known h))
+      (same-calls (keep unforced (placed h)) (keep unforced (accepted h)) (d .inCallOrder) (ascending-keep unforced (accepted h) (accepted-ascends h))
+      (λ k. unforced-times h k (placed h) (placed-known h) ∙ ap (λ (n : ℕ). cond (forcedAt k h) 0 n) (placed-once k) ∙ sym (unforced-times h k (accepted h) (accepted-known h))))
 
 -- ---- no accepted send is forced
 abbrev Unforced : List Sent → Type 0
@@ -168,15 +217,18 @@ not-forced (m ∷ h) f = all-append (λ (x : Sent). x .forced ≡ false) (accept
 none-full : (c : ℕ) (b : List Sent) (m : Made QueueCall) (h : List (Made QueueCall)) → Unforced (accepts m h) → findsFull c b m ≡ 0
 none-full c b m h f = go (m .answer .code) (m .asked) f
   where
-    go : (k : Code) (a : Option (Act QueueCall)) → Unforced (whenAccepted [] (ofAsked [] (sendIn (length h) (m .caller)) a) k) → whenOk 0 (ofAsked 0 (fullIn c b) a) k ≡ 0
-    go waiting a g = refl
+    by : (a : Option (Act QueueCall)) → Unforced (ofAsked [] (sendIn (length h) (m .caller)) a) → ofAsked 0 (fullIn c b) a ≡ 0
+    by none g = refl
+    by (some (own (send p w))) g = refl
+    by (some (own (receive p))) g = refl
+    by (some (own (forcedSend w))) g = absurd (no-both refl (g .0))
+    by (some refer) g = refl
+    by (some (setVector v)) g = refl
+
+    go : (k : Code) (a : Option (Act QueueCall)) → Unforced (whenAccepted [] (ofAsked [] (sendIn (length h) (m .caller)) a) k) → whenAccepted 0 (ofAsked 0 (fullIn c b) a) k ≡ 0
+    go ok a g = by a g
+    go waiting a g = by a g
     go (error e) a g = refl
-    go ok none g = refl
-    go ok (some (own (send p w))) g = refl
-    go ok (some (own (receive p))) g = refl
-    go ok (some (own (forcedSend w))) g = absurd (no-both refl (g .0))
-    go ok (some refer) g = refl
-    go ok (some (setVector v)) g = refl
 
 leaves-handed : (c : ℕ) (h : List (Made QueueCall)) → Unforced (accepted h) → gathered (leaves c) h ≡ words handed h
 leaves-handed c [] f = refl
@@ -193,24 +245,13 @@ call-order {x} {h} {buffer} {senders} d f z =
     ∙ (λ i. (sym (leaves-handed (x .capacity) h f) i ++ buffer) ++ waits i)
     ∙ ap (λ (l : List ℕ). l ++ map wordOf (waitingSends h)) (d .ordered)
     ∙ sym (map-append wordOf (entered h) (waitingSends h))
-    ∙ words-by-call h (entered h ++ waitingSends h) (all-append (Known h) (entered h) (waitingSends h) (known .0) (known .1))
-    ∙ ap (map (λ k. wordAt k h)) (same-calls (entered h ++ waitingSends h) (accepted h) ascends (accepted-ascends h) as-many)
-    ∙ sym (words-by-call h (accepted h) (accepted-known h))
+    ∙ ap (map wordOf) (sym (all-unforced (placed h) plain) ∙ unforced-order d z ∙ all-unforced (accepted h) f)
   where
     waits : wordsIn senders ≡ map wordOf (waitingSends h)
     waits = words-of senders ∙ ap (map (λ (y : Sender). y .word)) (d .sendersAre) ∙ sym (words-in (waitingSends h))
 
-    known : All (Known h) (entered h) × All (Known h) (waitingSends h)
-    known = entered-too (Known h) h (accepted-known h)
-
-    plain : Unforced (entered h) × Unforced (waitingSends h)
-    plain = entered-too (λ (y : Sent). y .forced ≡ false) h f
-
-    ascends : Ascending (entered h ++ waitingSends h)
-    ascends = subst Ascending (all-unforced (entered h ++ waitingSends h) (all-append (λ (y : Sent). y .forced ≡ false) (entered h) (waitingSends h) (plain .0) (plain .1))) (d .inCallOrder)
-
-    as-many : (k : ℕ) → times k (entered h ++ waitingSends h) ≡ times k (accepted h)
-    as-many k = omega (arith, times-append k (entered h) (waitingSends h), entered-placed (x .capacity) k h, d .placed k, ap (times k) z, accepted-once k h)
+    plain : Unforced (placed h)
+    plain = let k = entered-too (λ (y : Sent). y .forced ≡ false) h f in all-append (λ (y : Sent). y .forced ≡ false) (entered h) (waitingSends h) (k .0) (k .1)
 
 pub conserved : {s₀ s : State} {h : History} → Demand3 s₀ h s → (q : ℕ) → All (λ (m : Made QueueCall). NotForced (m .asked)) (byQueue q h)
     → words handed (byQueue q h) ++ (queueAt s q .buffer ++ wordsIn (senders s q)) ≡ map wordOf (accepted (byQueue q h))

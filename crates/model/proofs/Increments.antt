@@ -1,14 +1,14 @@
 -- Demand 3 of a list of calls and of one call more, in plain facts: whatever the list, the task, the object, the word. Assumes nothing.
 use mathlib.Core.Path.{_≡_, refl, sym, ap, _∙_, subst}
 use mathlib.Core.Logic.{_≢_}
-use mathlib.Core.Bool.{Bool, cond}
+use mathlib.Core.Bool.{Bool}
 use mathlib.Core.List.{List, [], _∷_, _++_, map, append-assoc, append-nil, tail-eq-of-cons-eq}
 use mathlib.Core.Option.{Option, none, some}
 use Prim.Native.Nat.{ℕ, suc, _+_, _≤_, _<_}
 use native.Mathlib.Omega.{arith}
 use lib.Dec.{eqb}
 use lib.IntN.{ℤ}
-use lib.ListN.{length, take, length-map}
+use lib.ListN.{length, take}
 use Rattle.itron.specs.Codes.{Err, Code, ok, waiting, error}
 use Rattle.model.specs.Lists.{keep, anyOf, gathered}
 use Rattle.model.specs.State.{Vector, onSem, receiving, sending, Waiter, State, queueAt, semAt, waiter, no}
@@ -24,8 +24,7 @@ use Rattle.model.specs.Sends.{Sent, wordOf, shown, waitingSends, enters,
 use Rattle.model.specs.QueueClaims as Queues
 use Rattle.model.specs.Demand3.{Demand3}
 use Rattle.model.proofs.Lists.{eqb-same, eqb-no, append-cancel, map-append, map-keep}
-use Rattle.model.proofs.Tests.{holds, fails, le-tells}
-use Rattle.model.proofs.Sends.{buffered-are, words-of, words-in}
+use Rattle.model.proofs.Sends.{buffered-are, finds-room, finds-full, words-of, words-in}
 
 -- ---- no call yet: the queues are empty, the counts are those at the start, nobody waits
 module _ {s₀ s : State} (d : Demand3 s₀ [] s) where
@@ -90,7 +89,7 @@ module _ (s₀ s s′ found : State) (h : History) (t : ℤ) (v : ℕ) (info : I
       where
         go : (c : Code) → Moved (seenQ o c rs) → after ≡ before
         go ok z = sym (λ i. map wordOf (d i) ++ (f i ++ after)) ∙ z ∙ ap (λ (l : List Sent). before ++ map wordOf l) g ∙ append-nil before
-        go waiting z = z ∙ append-nil before
+        go waiting z = sym (λ i. map wordOf (d i) ++ after) ∙ z ∙ append-nil before
         go (error x) z = z ∙ append-nil before
 
     -- a refused call, whatever it is
@@ -128,19 +127,10 @@ module _ (s₀ s s′ found : State) (h : History) (t : ℤ) (v : ℕ) (info : I
     buffered-is : Demand3 s₀ h s → queueAt s (no n) .buffer ≡ map wordOf (buffered (room (no n)) (seen (no n)))
     buffered-is d = buffered-are (room (no n)) (seen (no n)) (queueAt s (no n) .buffer) (d .queues (no n) .handedAre) (d .queues (no n) .ordered)
 
-    as-long : Demand3 s₀ h s → length (queueAt s (no n) .buffer) ≡ length (buffered (room (no n)) (seen (no n)))
-    as-long d = ap length (buffered-is d) ∙ length-map (buffered (room (no n)) (seen (no n))) wordOf
-
-    finds-room : (w : ℕ) → Demand3 s₀ h s → length (queueAt s (no n) .buffer) < queueAt s₀ (no n) .capacity → fullIn (room (no n)) (buffered (room (no n)) (seen (no n))) (forcedSend w) ≡ 0
-    finds-room w d g = ap (λ b. cond {A = ℕ} b 1 0) (fails (le-tells (room (no n)) (length (buffered (room (no n)) (seen (no n))))) (λ z. omega (arith, g, z, as-long d)))
-
-    finds-full : (w : ℕ) → Demand3 s₀ h s → queueAt s₀ (no n) .capacity ≤ length (queueAt s (no n) .buffer) → fullIn (room (no n)) (buffered (room (no n)) (seen (no n))) (forcedSend w) ≡ 1
-    finds-full w d g = ap (λ b. cond {A = ℕ} b 1 0) (holds (le-tells (room (no n)) (length (buffered (room (no n)) (seen (no n))))) (omega (arith, g, as-long d)))
-
     with-room : (w : ℕ) (rs : List Released) → length (queueAt s (no n) .buffer) < queueAt s₀ (no n) .capacity → More (onQueue n (own (forcedSend w))) ok rs
         → wordsOf rs ++ queueAt s′ (no n) .buffer ≡ queueAt s (no n) .buffer ++ (w ∷ [])
     with-room w rs g m =
-        ap (λ (i : ℕ). map wordOf (take i (buffered (room (no n)) (seen (no n)))) ++ (wordsOf rs ++ queueAt s′ (no n) .buffer)) (sym (finds-room w (m .0) g))
+        ap (λ (i : ℕ). map wordOf (take i (buffered (room (no n)) (seen (no n)))) ++ (wordsOf rs ++ queueAt s′ (no n) .buffer)) (sym (finds-room (room (no n)) (seen (no n)) (queueAt s (no n) .buffer) (buffered-is (m .0)) w g))
         ∙ moved (no n) _ ok rs m _ (mine (own (forcedSend w)))
 
     pub force-stays : (w : ℕ) → length (queueAt s (no n) .buffer) < queueAt s₀ (no n) .capacity → More (onQueue n (own (forcedSend w))) ok [] → queueAt s′ (no n) .buffer ≡ queueAt s (no n) .buffer ++ (w ∷ [])
@@ -150,23 +140,23 @@ module _ (s₀ s s′ found : State) (h : History) (t : ℤ) (v : ℕ) (info : I
         → r .word ∷ queueAt s′ (no n) .buffer ≡ queueAt s (no n) .buffer ++ (w ∷ [])
     force-passes w r g m = with-room w (r ∷ []) g m
 
-    pub force-drops : (w : ℕ) → queueAt s₀ (no n) .capacity ≤ length (queueAt s (no n) .buffer) → More (onQueue n (own (forcedSend w))) ok []
-        → (z : ℕ) × ((l : List ℕ) × ((queueAt s (no n) .buffer ≡ z ∷ l) × (queueAt s′ (no n) .buffer ≡ l ++ (w ∷ []))))
-    force-drops w g m = one (buffered c (seen (no n))) is-oldest (buffered-is (m .0))
-        (ap (λ (i : ℕ). map wordOf (take i (buffered c (seen (no n)))) ++ queueAt s′ (no n) .buffer) (sym full) ∙ moved (no n) _ ok [] m _ (mine (own (forcedSend w))))
+    pub force-drops : (w : ℕ) (rs : List Released) → queueAt s₀ (no n) .capacity ≤ length (queueAt s (no n) .buffer) → More (onQueue n (own (forcedSend w))) ok rs
+        → (z : ℕ) × ((l : List ℕ) × ((queueAt s (no n) .buffer ≡ z ∷ l) × (wordsOf rs ++ queueAt s′ (no n) .buffer ≡ l ++ (w ∷ []))))
+    force-drops w rs g m = one (buffered c (seen (no n))) is-oldest (buffered-is (m .0))
+        (ap (λ (i : ℕ). map wordOf (take i (buffered c (seen (no n)))) ++ (wordsOf rs ++ queueAt s′ (no n) .buffer)) (sym full) ∙ moved (no n) _ ok rs m _ (mine (own (forcedSend w))))
       where
         c : ℕ
         c = room (no n)
 
         full : fullIn c (buffered c (seen (no n))) (forcedSend w) ≡ 1
-        full = finds-full w (m .0) g
+        full = finds-full c (seen (no n)) (queueAt s (no n) .buffer) (buffered-is (m .0)) w g
 
         is-oldest : length (take 1 (buffered c (seen (no n)))) ≡ 1
         is-oldest = subst (λ (i : ℕ). length (take i (buffered c (seen (no n)))) ≡ i) full
-            (subst (λ (o : Option (Act QueueCall)). Queues.DropsOne c (seenQ o ok []) (seen (no n))) (mine (own (forcedSend w))) (m .1 .queues (no n) .oneEach .0))
+            (subst (λ (o : Option (Act QueueCall)). Queues.DropsOne c (seenQ o ok rs) (seen (no n))) (mine (own (forcedSend w))) (m .1 .queues (no n) .oneEach .0))
 
-        one : (l : List Sent) → length (take 1 l) ≡ 1 → queueAt s (no n) .buffer ≡ map wordOf l → map wordOf (take 1 l) ++ queueAt s′ (no n) .buffer ≡ queueAt s (no n) .buffer ++ (w ∷ [])
-            → (z : ℕ) × ((k : List ℕ) × ((queueAt s (no n) .buffer ≡ z ∷ k) × (queueAt s′ (no n) .buffer ≡ k ++ (w ∷ []))))
+        one : (l : List Sent) → length (take 1 l) ≡ 1 → queueAt s (no n) .buffer ≡ map wordOf l → map wordOf (take 1 l) ++ (wordsOf rs ++ queueAt s′ (no n) .buffer) ≡ queueAt s (no n) .buffer ++ (w ∷ [])
+            → (z : ℕ) × ((k : List ℕ) × ((queueAt s (no n) .buffer ≡ z ∷ k) × (wordsOf rs ++ queueAt s′ (no n) .buffer ≡ k ++ (w ∷ []))))
         one [] i f j = absurd (omega (arith, i))
         one (x ∷ l) i f j = (x .word, (map wordOf l, (f, tail-eq-of-cons-eq (j ∙ ap (λ (k : List ℕ). k ++ (w ∷ [])) f))))
 

@@ -1,7 +1,7 @@
 -- What one call does to the sends on a data queue: which enter or pass, leave, are dropped and wait. Assumes nothing.
 use mathlib.Core.Path.{_≡_, refl, sym, ap, _∙_, subst}
 use mathlib.Core.Logic.{_≢_}
-use mathlib.Core.Bool.{Bool, true, false, cond, not}
+use mathlib.Core.Bool.{Bool, true, false, not}
 use mathlib.Core.List.{List, [], _∷_, _++_, map, append-nil, head-eq-of-cons-eq, tail-eq-of-cons-eq}
 use mathlib.Core.Option.{Option, none, some}
 use Prim.Native.Nat.{ℕ, zero, suc, _≤_, _<_}
@@ -18,14 +18,13 @@ use Rattle.model.specs.Acts.{Act, own, refer, setVector}
 use Rattle.model.specs.Rooms.{actOn}
 use Rattle.model.specs.Queues.{QueueCall, send, receive, forcedSend, queueIn, setBuffer, does, told, room}
 use Rattle.model.specs.History.{Made}
-use Rattle.model.specs.Sends.{Sent, sentAs, wordOf, shown, notShown, waitingSends, accepts, enters, handed, fullIn, findsFull, buffered}
+use Rattle.model.specs.Sends.{Sent, sentAs, wordOf, shown, notShown, waitingSends, accepts, enters, handed, findsFull, buffered}
 use Rattle.model.specs.QueueClaims.{Sender, senderOf, senderIn}
 use Rattle.model.proofs.Lists.{Distinct, cons-ne, eqb-same, at-put-same, at-put-keep, keep-whole, keep-rest, map-append, map-parts}
-use Rattle.model.proofs.Tests.{holds, fails, le-tells}
 use Rattle.model.proofs.WaitQueues.{leave-here}
 use Rattle.model.proofs.Rooms.{ok-same, accepted-same}
 use Rattle.model.proofs.Queues.{QueueOk, viewIn, cover, empty, unheld}
-use Rattle.model.proofs.Sends.{Line, inTurn, ahead, Moves}
+use Rattle.model.proofs.Sends.{finds-room, finds-full, Line, inTurn, ahead, Moves}
 
 -- ---- lists
 nothing-mapped : {A B : Type 0} (f : A → B) (l : List A) → [] ≡ map f l → l ≡ []
@@ -98,7 +97,7 @@ module _ (c : ℕ) (h : List (Made QueueCall)) (b : List ℕ) (words : b ≡ map
   -- a call on another object, which leaves this queue's buffer and senders as they were
   pub elsewhere-moves : (t : ℕ) (a : Answer) (x : List Waiter) (b′ : List ℕ) → map senderOf x ≡ map senderIn (waitingSends h) → map senderOf x ≡ map senderIn (waitingSends (record { caller = t; asked = none; answer = a } ∷ h)) → b′ ≡ b
       → Moves c (record { caller = t; asked = none; answer = a }) h b′
-  elsewhere-moves t a x b′ then now s = moves-none m b′ (ok-same 0 (a .code)) (ok-same {A = List ℕ} [] (a .code)) (ok-same {A = List Sent} [] (a .code)) (accepted-same {A = List Sent} [] (a .code)) waits s
+  elsewhere-moves t a x b′ then now s = moves-none m b′ (accepted-same 0 (a .code)) (ok-same {A = List ℕ} [] (a .code)) (ok-same {A = List Sent} [] (a .code)) (accepted-same {A = List Sent} [] (a .code)) waits s
     where
       m : Made QueueCall
       m = record { caller = t; asked = none; answer = a }
@@ -141,9 +140,6 @@ module _ (ws : List Waiter) (xs : List Queue) (t q : ℕ) (hq : q ≢ 0) (r : q 
     no-sends : waitersIn ws (place sending q) ≡ [] → waitingSends h ≡ []
     no-sends z = nothing-mapped senderIn (waitingSends h) (ap (map senderOf) (sym z) ∙ then)
 
-    as-long : length b ≡ length (buffered c h)
-    as-long = ap length words ∙ length-map (buffered c h) wordOf
-
     -- a send of either kind that passes to a receiver, or goes into room
     passes : (x : Sent) {e : Waiter} {l : List Waiter} → waitersIn ws (place receiving q) ≡ e ∷ l → (m : Made QueueCall) → findsFull c (buffered c h) m ≡ 0 → enters m h ≡ x ∷ [] → accepts m h ≡ x ∷ []
         → waitingSends (m ∷ h) ≡ keep (notShown (m .answer .released)) (waitingSends h) ++ [] → handed m ≡ x .word ∷ [] → Moves c m h b
@@ -178,18 +174,11 @@ module _ (ws : List Waiter) (xs : List Queue) (t q : ℕ) (hq : q ≢ 0) (r : q 
         (ap (λ (m : List ℕ). v ∷ m) g ∙ f ∙ ap (λ (n : ℕ). b ++ (n ∷ [])) (sym (y .1 .0)) ∙ ap (λ (m : List Sent). b ++ map wordOf m) (sym (y .1 .1 .0)))
         (inTurn (ap (λ (m : List Sent). m ++ (keep (notShown (freed e 0)) (waitingSends h) ++ [])) (y .1 .1 .0) ∙ y .1 .1 .1 ∙ sym (append-nil (waitingSends h))))
 
-    -- whether a forced send finds the buffer full
-    with-room : (w : ℕ) → length b < c → fullIn c (buffered c h) (forcedSend w) ≡ 0
-    with-room w g = ap (λ (y : Bool). cond {A = ℕ} y 1 0) (fails (le-tells c (length (buffered c h))) (λ z. omega (arith, g, z, as-long)))
-
-    when-full : (w : ℕ) → c ≤ length b → fullIn c (buffered c h) (forcedSend w) ≡ 1
-    when-full w g = ap (λ (y : Bool). cond {A = ℕ} y 1 0) (holds (le-tells c (length (buffered c h))) (omega (arith, g, as-long)))
-
     replaces : (w z : ℕ) (b′ : List ℕ) → c ≤ length b → b ≡ z ∷ b′ → Moves c (made (own (forcedSend w)) (say ok 0 [])) h (queueIn (setBuffer xs q (b′ ++ (w ∷ []))) q .buffer)
     replaces w z b′ g f =
         let l = buffered c h in
         let p = map-parts wordOf (z ∷ []) b′ l (sym f ∙ words) in
-        let n = when-full w g in
+        let n = finds-full c h b words w g in
         record {
           flow =
               refilled (b′ ++ (w ∷ []))
@@ -214,8 +203,8 @@ module _ (ws : List Waiter) (xs : List Queue) (t q : ℕ) (hq : q ≢ 0) (r : q 
       receiveFails = λ f g now. refused-moves c h b words t (some (own (receive polling))) eTmout;
       receiveWaits = λ f g now. moves-none c h b words (made (own (receive forever)) (say waiting 0 [])) b refl refl refl refl (waits-on (waitingSends h)) refl;
       forceMisused = λ w f now. refused-moves c h b words t (some (own (forcedSend w))) eIluse;
-      forcePasses = λ w e l n f now. passes (sentAs (length h) t w true) f (made (own (forcedSend w)) (say ok 0 (freed e w))) (with-room w (positive n f)) refl refl refl refl;
-      forceStores = λ w f g now. stores (sentAs (length h) t w true) g (made (own (forcedSend w)) (say ok 0 [])) (with-room w (ltb-true (length b) c g)) refl refl refl refl;
+      forcePasses = λ w e l n f now. passes (sentAs (length h) t w true) f (made (own (forcedSend w)) (say ok 0 (freed e w))) (finds-room c h b words w (positive n f)) refl refl refl refl;
+      forceStores = λ w f g now. stores (sentAs (length h) t w true) g (made (own (forcedSend w)) (say ok 0 [])) (finds-room c h b words w (ltb-true (length b) c g)) refl refl refl refl;
       forceDrops = λ w z b′ f g j now. replaces w z b′ (ltb-false (length b) c g) j;
     }) a
       where

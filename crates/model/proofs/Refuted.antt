@@ -11,7 +11,7 @@ use lib.IntN.{pos, negsuc}
 use lib.ListN.{length, getD}
 use Rattle.itron.specs.Limits.{minUnit}
 use Rattle.access.specs.Patterns.{admitted}
-use Rattle.itron.specs.Codes.{Code, ok, waiting, error, eOacv}
+use Rattle.itron.specs.Codes.{Err, Code, ok, waiting, error, eOacv, eQovr, eTmout}
 use Rattle.model.specs.Lists.{gathered}
 use Rattle.model.specs.State.{Vector, onSem, receiving, sending, Place, Waiter, State, stateWith, setWaits, setSems, setQueues, place, sideNumber, waiter}
 use Rattle.model.specs.Answers.{Released, say}
@@ -194,6 +194,31 @@ small = setQueues start (record { domain = negsuc 0; attribute = 0; capacity = 0
 pub forced-on-0 : Demand3 small (forces 1 700 ∷ []) small → ⊥
 forced-on-0 d = let e : _≡_ {A = ℕ} 0 1 = d .queues 1 .oneEach .0 in omega arith
 
+-- even with a waiting receiver, and earlier in the list too
+abbrev awaits : ℕ → Event
+awaits t = did t (onQueue (pos 1) (own (receive forever))) waiting 0 []
+
+abbrev passes-0 : History
+passes-0 = did 1 (onQueue (pos 1) (own (forcedSend 700))) ok 0 (released 3 700) ∷ awaits 3 ∷ []
+
+pub forced-past-0 : Demand3 small passes-0 small → ⊥
+forced-past-0 d = let e : _≡_ {A = ℕ} 0 1 = d .queues 1 .oneEach .0 in omega arith
+
+pub forced-past-0-before : Demand3 small (did 1 (onQueue (pos 1) (setVector (for 1))) ok 0 [] ∷ passes-0) small → ⊥
+forced-past-0-before d = let e : _≡_ {A = ℕ} 0 1 = d .queues 1 .oneEach .1 .0 in omega arith
+
+-- the oldest handed out to a receiver and not dropped
+pub handed-not-dropped : Claims (did 1 (onQueue (pos 1) (own (forcedSend 702))) ok 0 (released 3 700) ∷ sends 1 701 ∷ sends 1 700 ∷ awaits 3 ∷ []) (701 ∷ 702 ∷ []) → ⊥
+handed-not-dropped d = let e : _≡_ {A = ℕ} 4 3 = ap length (d .queues 1 .ordered) in omega arith
+
+-- a forced send that is accepted by "waiting" drops too
+pub waits-and-drops-none : Demand3 start (did 3 (onQueue (pos 1) (own (forcedSend 702))) waiting 0 [] ∷ full) (table (waiter 3 sending 1 702 ∷ []) 0 (700 ∷ 701 ∷ [])) → ⊥
+waits-and-drops-none d = let e : _≡_ {A = ℕ} 3 2 = ap length (d .queues 1 .ordered) in omega arith
+
+-- a refused one does not
+pub refused-and-dropped : Claims (did 1 (onQueue (pos 1) (own (forcedSend 702))) (error eOacv) 0 [] ∷ full) (701 ∷ 702 ∷ []) → ⊥
+refused-and-dropped d = let e : _≡_ {A = ℕ} 701 700 = ap (λ (l : List ℕ). getD l 0 0) (d .queues 1 .ordered) in omega arith
+
 -- a denied force
 pub denied-force : Claims (forces 2 700 ∷ []) (700 ∷ []) → ⊥
 unfolding admitted
@@ -213,12 +238,27 @@ overtaken d = let e : 3 < 2 = d .queues 1 .inCallOrder .1 .1 .0 .0 in omega arit
 pub waiter-passed : Demand3 start (sends 3 701 ∷ waits ∷ []) (table (waiter 1 sending 1 700 ∷ []) 0 (701 ∷ [])) → ⊥
 waiter-passed d = let e : 1 < 0 = d .queues 1 .inCallOrder .0 .0 in omega arith
 
+-- where a forced send has passed it before
+pub waiter-passed-after-force : Demand3 start (sends 3 701 ∷ forces 4 5 ∷ waits ∷ []) (table (waiter 1 sending 1 700 ∷ []) 0 (5 ∷ 701 ∷ [])) → ⊥
+waiter-passed-after-force d = let e : 2 < 0 = d .queues 1 .inCallOrder .0 .0 in omega arith
+
 -- "in exactly one place": buffered and with its sender; and, once a set-vector has released the sender, nowhere
 pub in-two-places : Demand3 start (waits ∷ []) (table (waiter 1 sending 1 700 ∷ []) 0 (700 ∷ [])) → ⊥
 in-two-places d = let e : _≡_ {A = ℕ} 1 0 = ap length (d .queues 1 .ordered) in omega arith
 
 pub in-no-place : Claims (did 4 (onQueue (pos 1) (setVector (for 1))) ok 0 (released 1 0) ∷ waits ∷ []) [] → ⊥
 in-no-place d = let e : _≡_ {A = ℕ} 0 1 = d .queues 1 .placed 0 in omega arith
+
+-- nowhere, where a forced send came between, and where it is a forced send's own
+pub in-no-place-after-force : Claims (did 4 (onQueue (pos 1) (own (receive forever))) waiting 0 (released 1 0) ∷ forces 3 5 ∷ waits ∷ []) (5 ∷ []) → ⊥
+in-no-place-after-force d = let e : _≡_ {A = ℕ} 0 1 = d .queues 1 .placed 0 in omega arith
+
+pub forced-in-no-place : Claims (did 4 (onQueue (pos 1) (setVector (for 1))) ok 0 (released 3 0) ∷ did 3 (onQueue (pos 1) (own (forcedSend 5))) waiting 0 [] ∷ []) [] → ⊥
+forced-in-no-place d = let e : _≡_ {A = ℕ} 0 1 = d .queues 1 .placed 0 in omega arith
+
+-- one word for two receivers
+pub handed-to-two : Claims (did 1 (onQueue (pos 1) (own (send polling 700))) ok 0 (record { task = 3; word = 700 } ∷ record { task = 4; word = 700 } ∷ []) ∷ awaits 4 ∷ awaits 3 ∷ []) [] → ⊥
+handed-to-two d = let e : _≡_ {A = ℕ} 2 1 = ap length (d .queues 1 .handedAre .0) in omega arith
 
 -- a word handed out before it was sent
 pub handed-before : Claims (sends 1 700 ∷ did 3 (onQueue (pos 1) (own (receive polling))) ok 700 [] ∷ []) [] → ⊥
@@ -244,41 +284,55 @@ pub waits-uncalled : Demand3 start [] (table (waiter 3 onSem 1 0 ∷ []) 0 []) �
 waits-uncalled d = let e : _≡_ {A = ℕ} 1 0 = ap length (d .waitersAre) in omega arith
 
 -- ---- a release belongs to a wait
+refused-done : {e : Err} → error e ≡ ok → ⊥
+refused-done h = let z : _≡_ {A = ℕ} 0 1 = cc in omega arith
+
 -- one waiting receive, released by two sends
 pub released-twice : Claims (did 1 (onQueue (pos 1) (own (send polling 701))) ok 0 (released 3 701) ∷ did 1 (onQueue (pos 1) (own (send polling 700))) ok 0 (released 3 700) ∷ did 3 (onQueue (pos 1) (own (receive forever))) waiting 0 [] ∷ []) [] → ⊥
-released-twice d = d .releases .0 .0 .waited
+released-twice d = d .releases .0 .each .0 .waited
 
 -- a signal that releases a task which never waited
 pub released-unasked : Claims (did 1 (onSemaphore (pos 1) (own signal)) ok 0 (released 3 0) ∷ []) [] → ⊥
-released-unasked d = d .releases .0 .0 .waited
+released-unasked d = d .releases .0 .each .0 .waited
 
 -- earlier in the list too
 pub released-unasked-before : Claims (sends 1 700 ∷ did 1 (onSemaphore (pos 1) (own signal)) ok 0 (released 3 0) ∷ []) (700 ∷ []) → ⊥
-released-unasked-before d = d .releases .1 .0 .0 .waited
+released-unasked-before d = d .releases .1 .0 .each .0 .waited
 
 -- one that waits at another side of an object, and one that waits at another object
 pub released-from-another-side : Claims (did 1 (onSemaphore (pos 1) (own signal)) ok 0 (released 3 0) ∷ did 3 (onQueue (pos 1) (own (receive forever))) waiting 0 [] ∷ []) [] → ⊥
-released-from-another-side d = go (d .releases .0 .0 .waited)
+released-from-another-side d = go (d .releases .0 .each .0 .waited)
   where
     go : WaitsAt (some (place onSem 1)) 3 (waiter 3 receiving 1 0 ∷ []) → ⊥
     go (inl x) = let e : _≡_ {A = ℕ} 1 0 = ap (λ (p : Place). sideNumber (p .side)) (x .1) in omega arith
 
 pub released-from-another : Claims (did 1 (onSemaphore (pos 2) (own signal)) ok 0 (released 3 0) ∷ acquires 3 ∷ []) [] → ⊥
-released-from-another d = go (d .releases .0 .0 .waited)
+released-from-another d = go (d .releases .0 .each .0 .waited)
   where
     go : WaitsAt (some (place onSem 2)) 3 (waiter 3 onSem 1 0 ∷ []) → ⊥
     go (inl x) = let e : _≡_ {A = ℕ} 1 2 = ap (λ (p : Place). p .number) (x .1) in omega arith
 
 -- by a call that serves nobody
 pub released-by-poll : Claims (did 1 (onSemaphore (pos 1) (own (acquire polling))) ok 0 (released 3 0) ∷ acquires 3 ∷ []) [] → ⊥
-released-by-poll d = d .releases .0 .0 .waited
+released-by-poll d = d .releases .0 .each .0 .waited
 
 pub released-by-set-vector : Claims (did 1 (onSemaphore (pos 1) (setVector (for 1))) ok 0 (released 3 0) ∷ acquires 3 ∷ []) [] → ⊥
-released-by-set-vector d = d .releases .0 .0 .waited
+released-by-set-vector d = d .releases .0 .each .0 .waited
 
 -- and it goes on waiting
 pub released-and-waits : Demand3 start (did 1 (onQueue (pos 1) (own (receive forever))) waiting 0 (released 1 0) ∷ waits ∷ []) (table (waiter 1 receiving 1 0 ∷ []) 0 []) → ⊥
-released-and-waits d = d .releases .0 .0 .ended .0 refl
+released-and-waits d = d .releases .0 .each .0 .ended .0 refl
+
+-- by a call that is refused: a send that hands a word to a receiver so, and a signal
+pub released-by-refused-send : Claims (did 1 (onQueue (pos 1) (own (send polling 700))) (error eTmout) 0 (released 2 999) ∷ awaits 2 ∷ []) [] → ⊥
+released-by-refused-send d = refused-done (d .releases .0 .each .0 .done)
+
+pub released-by-refused-signal : Claims (did 1 (onSemaphore (pos 1) (own signal)) (error eQovr) 0 (released 3 0) ∷ acquires 3 ∷ []) [] → ⊥
+released-by-refused-signal d = refused-done (d .releases .0 .each .0 .done)
+
+-- twice by one answer
+pub released-twice-at-once : Claims (did 1 (onQueue (pos 1) (own (send polling 700))) ok 0 (record { task = 3; word = 700 } ∷ record { task = 3; word = 701 } ∷ []) ∷ awaits 3 ∷ sends 1 701 ∷ []) [] → ⊥
+released-twice-at-once d = d .releases .0 .once .0 .0 refl
 
 -- ---- the count: a grant for nothing, and a signal that is lost
 pub granted-for-nothing : Claims (did 1 (onSemaphore (pos 1) (own (acquire polling))) ok 0 [] ∷ []) [] → ⊥

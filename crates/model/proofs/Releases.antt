@@ -16,7 +16,7 @@ use Rattle.model.specs.Semaphores.{signal, acquire}
 use Rattle.model.specs.Queues.{send, receive, forcedSend}
 use Rattle.model.specs.Calls.{Op, onSemaphore, onQueue, Call, asks, step}
 use Rattle.model.specs.History.{event, after, history}
-use Rattle.model.specs.Releases.{servedBy, WaitsAt, WaitsNot, EndsWait, ReleasesWaiters}
+use Rattle.model.specs.Releases.{servedBy, WaitsAt, WaitsNot, EndsWait, Once, ReleasesWaiters}
 use Rattle.model.proofs.Lists.{no-both, eqb-same, cons-ne}
 use Rattle.model.proofs.WaitQueues.{place-of}
 use Rattle.model.proofs.Cover.{Endings, ends}
@@ -52,40 +52,41 @@ left t (x ∷ ws) = go (isOther t x) refl (left t ws)
     go false z k = k
 
 -- ---- one call
--- of a task released: where it waited before the call, and that it does not wait after it
-abbrev Leaves : State → Option Place → State → Released → Type 0
-Leaves s p s′ r = WaitsAt p (r .task) (s .waits) × WaitsNot (r .task) (s′ .waits)
+-- of a task released by a call that gives o: the call is done, where the task waited before it, and that it does not wait after it
+abbrev Leaves : State → Option Place → Out → Released → Type 0
+Leaves s p o r = (o .answer .code ≡ ok) × (WaitsAt p (r .task) (s .waits) × WaitsNot (r .task) (o .state .waits))
 
 abbrev ReleaseLaw : State → ℕ → Asks → Out → Type 0
-ReleaseLaw s t x o = All (Leaves s (x .serves ok) (o .state)) (o .answer .released)
+ReleaseLaw s t x o = All (Leaves s (x .serves ok) o) (o .answer .released) × Once (o .answer .released)
 
 release-ends : (s : State) → Endings s (ReleaseLaw s)
 release-ends s = record {
-  refused = λ t x e o. tt;
-  tells = λ t x r o. tt;
-  gives = λ t x s′ w k v. tt;
-  wakes = λ t x s′ p e l w h k v f. ((rw v (first-waits (s .waits) p f), rw (k .waits) (left (e .task) (s .waits))), tt);
-  waits = λ t x e h c z p b v. tt;
+  refused = λ t x e o. (tt, tt);
+  tells = λ t x r o. (tt, tt);
+  gives = λ t x s′ w k v. (tt, tt);
+  wakes = λ t x s′ p e l w h k v f. (((refl, (rw v (first-waits (s .waits) p f), rw (k .waits) (left (e .task) (s .waits)))), tt), (tt, tt));
+  waits = λ t x e h c z p b v. (tt, tt);
 }
 
-pub release-law : (s : State) (c : Call) → All (Leaves s (servedBy (c .op)) (step s c .state)) (step s c .answer .released)
-release-law s c = subst (λ (p : Option Place). All (Leaves s p (step s c .state)) (step s c .answer .released)) (served-is (c .op)) (ends s (ReleaseLaw s) (release-ends s) c)
+pub release-law : (s : State) (c : Call) → All (Leaves s (servedBy (c .op)) (step s c)) (step s c .answer .released) × Once (step s c .answer .released)
+release-law s c = subst (λ (p : Option Place). All (Leaves s p (step s c)) (step s c .answer .released) × Once (step s c .answer .released)) (served-is (c .op)) (ends s (ReleaseLaw s) (release-ends s) c)
 
 -- ---- the whole list
 pub releases : (s₀ : State) → s₀ .waits ≡ [] → (cs : List Call) → Each ReleasesWaiters (history s₀ cs)
 unfolding after history
 releases s₀ j [] = tt
-releases s₀ j (c ∷ cs) = (by-history (step s c .answer .released) (release-law s c), releases s₀ j cs)
+releases s₀ j (c ∷ cs) = (record { each = by-history (step s c .answer .released) (release-law s c .0); once = release-law s c .1 }, releases s₀ j cs)
   where
     s : State
     s = after s₀ cs
 
-    by-history : (rs : List Released) → All (Leaves s (servedBy (c .op)) (step s c .state)) rs → All (EndsWait (event s c) (history s₀ cs)) rs
+    by-history : (rs : List Released) → All (Leaves s (servedBy (c .op)) (step s c)) rs → All (EndsWait (event s c) (history s₀ cs)) rs
     by-history [] k = tt
     by-history (r ∷ rs) k = (
       record {
-        waited = subst (WaitsAt (servedBy (c .op)) (r .task)) (waiters-are s₀ j cs) (k .0 .0);
-        ended = subst (WaitsNot (r .task)) (waiters-are s₀ j (c ∷ cs)) (k .0 .1);
+        done = k .0 .0;
+        waited = subst (WaitsAt (servedBy (c .op)) (r .task)) (waiters-are s₀ j cs) (k .0 .1 .0);
+        ended = subst (WaitsNot (r .task)) (waiters-are s₀ j (c ∷ cs)) (k .0 .1 .1);
       },
       by-history rs (k .1),
     )

@@ -6,16 +6,17 @@ use mathlib.Core.Option.{Option, none, some}
 use Prim.Native.Nat.{ℕ, suc, _+_, _≤_, _<_}
 use native.Mathlib.Omega.{arith}
 use lib.Dec.{eqb}
-use lib.ListN.{length, take, drop, length-append, take-append-drop}
+use lib.ListN.{length, take, drop, length-append, length-map, take-append-drop}
 use Rattle.itron.specs.Codes.{Code, ok, waiting, error}
 use Rattle.model.specs.Lists.{All, keep, consIf, words, Each, gathered}
 use Rattle.model.specs.Answers.{whenAccepted}
 use Rattle.model.specs.Acts.{Act, own, refer, setVector}
 use Rattle.model.specs.Queues.{QueueCall, send, receive, forcedSend}
 use Rattle.model.specs.History.{Made}
-use Rattle.model.specs.Sends.{Sent, sendOf, wordOf, unforced, times, Before, Ascending, accepts, acceptedOf, waitingSends, withdrawn, enters, entered, handed, findsFull, present, buffered, drops, dropped, hands, handedOut, leaves}
+use Rattle.model.specs.Sends.{Sent, sendOf, wordOf, unforced, times, Before, Ascending, accepts, accepted, acceptedOf, waitingSends, withdrawn, enters, entered, handed, fullIn, findsFull, present, buffered, drops, dropped, hands, handedOut, leaves}
 use Rattle.model.specs.State.{Waiter}
 use Rattle.model.specs.QueueClaims.{Sender, senderOf, senderIn, wordsIn, HandsFirst, DropsOne}
+use Rattle.model.proofs.Tests.{holds, fails, le-tells}
 use Rattle.model.proofs.Lists.{eq-of, ne-of, eqb-same, eqb-no, keep-append, append-cancel, map-append, map-parts, all-keep, all-append, all-weaker}
 
 -- ---- how many are of one call
@@ -100,10 +101,18 @@ module _ (c : ℕ) where
   pub buffered-are : (h : List (Made QueueCall)) (b : List ℕ) → Each (HandsFirst c) h → gathered (leaves c) h ++ b ≡ map wordOf (entered h) → b ≡ map wordOf (buffered c h)
   buffered-are h b f e = append-cancel (gathered (leaves c) h) (e ∙ sym (in-order h f))
 
--- ---- the accepted sends, in call order
-abbrev pub accepted : List (Made QueueCall) → List Sent
-accepted h = gathered accepts h
+  -- ---- what a forced send finds, by the words of the buffer
+  module _ (h : List (Made QueueCall)) (b : List ℕ) (e : b ≡ map wordOf (buffered c h)) (w : ℕ) where
+    as-long : length b ≡ length (buffered c h)
+    as-long = ap length e ∙ length-map (buffered c h) wordOf
 
+    pub finds-room : length b < c → fullIn c (buffered c h) (forcedSend w) ≡ 0
+    finds-room g = ap (λ (y : Bool). cond {A = ℕ} y 1 0) (fails (le-tells c (length (buffered c h))) (λ z. omega (arith, g, z, as-long)))
+
+    pub finds-full : c ≤ length b → fullIn c (buffered c h) (forcedSend w) ≡ 1
+    finds-full g = ap (λ (y : Bool). cond {A = ℕ} y 1 0) (holds (le-tells c (length (buffered c h))) (omega (arith, g, as-long)))
+
+-- ---- the accepted sends, in call order
 -- a call's send is of that call, and there is one at most
 abbrev pub Of : ℕ → List Sent → Type 0
 Of k l = All (λ (x : Sent). x .call ≡ k) l × (length l ≤ 1)

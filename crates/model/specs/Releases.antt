@@ -1,9 +1,10 @@
 -- A release belongs to a wait: whom a call may release. Definitions only.
 use mathlib.Core.Path.{_≡_}
 use mathlib.Core.Logic.{_≢_}
-use mathlib.Core.List.{List, _∷_}
+use mathlib.Core.List.{List, [], _∷_}
 use mathlib.Core.Option.{Option, none, some}
 use Prim.Native.Nat.{ℕ}
+use Rattle.itron.specs.Codes.{ok}
 use Rattle.model.specs.Lists.{All, Some}
 use Rattle.model.specs.State.{Side, Place, Waiter, place, no}
 use Rattle.model.specs.Answers.{Released}
@@ -32,10 +33,18 @@ WaitsNot t ws = All (λ (e : Waiter). e .task ≢ t) ws
 
 -- ---- of a call e after the calls h, and a task that its answer shows released
 pub record EndsWait (e : Event) (h : History) (r : Released) : Type 0 where
-  -- it was waiting, at the place that the call serves
+  -- the call is done
+  pub done : e .answer .code ≡ ok
+  -- the task was waiting, at the place that the call serves
   pub waited : WaitsAt (servedBy (e .call .op)) (r .task) (pending h)
   -- and waits no longer
   pub ended : WaitsNot (r .task) (pending (e ∷ h))
 
-abbrev pub ReleasesWaiters : Event → History → Type 0
-ReleasesWaiters e h = All (EndsWait e h) (e .answer .released)
+-- no task is among them twice
+abbrev pub Once : List Released → Type 0
+Once [] = Unit
+Once (r ∷ rs) = All (λ (x : Released). x .task ≢ r .task) rs × Once rs
+
+pub record ReleasesWaiters (e : Event) (h : History) : Type 0 where
+  pub each : All (EndsWait e h) (e .answer .released)
+  pub once : Once (e .answer .released)

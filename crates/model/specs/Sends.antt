@@ -9,7 +9,7 @@ use Rattle.model.specs.Answers.{Released, Answer, whenOk, whenWaiting, w
 use Rattle.model.specs.Queues.{QueueCall, send, receive, forcedSend}
 use Rattle.model.specs.History.{Made, ofAsked}
 
--- ---- a send: its call, told by the number of calls before it, which no other call shares; its task, its word, and whether it is forced
+-- ---- a send: its call, told by the number of all calls before it, on whatever object, which no other call shares; its task, its word, and whether it is forced
 pub record Sent : Type 0 where
   pub call : ℕ
   pub task : ℕ
@@ -49,6 +49,9 @@ Ascending (x ∷ l) = All (Before x) l × Ascending l
 -- ---- a send of any kind is accepted when it answers E_OK or "waiting"
 abbrev pub accepts : Made QueueCall → List (Made QueueCall) → List Sent
 accepts m h = whenAccepted [] (sendOf m h) (m .answer .code)
+
+abbrev pub accepted : List (Made QueueCall) → List Sent
+accepted h = gathered accepts h
 
 -- 1 where call k was an accepted send, else 0
 abbrev pub acceptedOf : ℕ → List (Made QueueCall) → ℕ
@@ -108,7 +111,7 @@ module _ (capacity : ℕ) where
   fullIn b (forcedSend w) = cond (leb capacity (length b)) 1 0
 
   abbrev pub findsFull : List Sent → Made QueueCall → ℕ
-  findsFull b m = whenOk 0 (ofAsked 0 (fullIn b) (m .asked)) (m .answer .code)
+  findsFull b m = whenAccepted 0 (ofAsked 0 (fullIn b) (m .asked)) (m .answer .code)
 
   -- those from which a call hands out: the sends in the buffer but for the dropped one, then those that enter or pass with the call
   abbrev pub present : List Sent → Made QueueCall → List (Made QueueCall) → List Sent
