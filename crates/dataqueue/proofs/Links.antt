@@ -5,7 +5,7 @@ use mathlib.Core.Path.{_≡_, refl, sym, ap, _∙_, subst}
 use mathlib.Core.Logic.{_≢_}
 use mathlib.Core.List.{List, [], _∷_, _++_, map}
 use lib.ListN.{length, getD, take, drop, set, length-append, length-set, length-drop, List·getD-eq-default}
-use lib.Seq.{getD-take, getD-drop, length-take-le, set-set, getD-set-same}
+use lib.Seq.{getD-take, getD-drop, length-take-le, set-getD}
 use Rattle.access.specs.declared.vector.Vector.{Vector}
 use Rattle.arrays.specs.Pad.{pad}
 use Rattle.arrays.proofs.Pads.{pad-get, pad-set, pad-length}
@@ -15,7 +15,7 @@ use Rattle.model.specs.Lists.{at}
 use Rattle.model.specs.Rooms.{setVectorOf}
 use Rattle.model.specs.Queues.{room, queueIn, setBuffer}
 use Rattle.model.specs.Conditions.{QueuesFit}
-use Rattle.model.proofs.Fits.{queues-put, buffer-fits}
+use Rattle.model.proofs.Fits.{buffer-fits}
 use Rattle.dataqueue.specs.declared.state.Queue.{Queue}
 use Rattle.dataqueue.specs.declared.state.Queues.{Queues}
 use Rattle.dataqueue.specs.declared.state.QueueInfo.{QueueInfo}
@@ -23,12 +23,14 @@ use Rattle.dataqueue.specs.View.{queueSeen, queuesOf}
 use Rattle.dataqueue.specs.Form.{noRecord, recordOf, laid, spread, queuesAs}
 use Rattle.dataqueue.specs.Held.{Held}
 use Rattle.dataqueue.specs.Buffers.{closeUp}
-use Rattle.dataqueue.proofs.Parts.{start, laid-length, laid-get, laid-set, laid-info, part-fits, words-push, words-close, spread-keep}
-use Rattle.dataqueue.proofs.Back.{back-queues, held-as}
+use Rattle.dataqueue.proofs.Parts.{start, laid-length, laid-get, laid-set, laid-info, part-fits, part-pop, part-refill, words-push, words-close, spread-keep}
 
 -- ---- the queues with one record and the words replaced
 abbrev pub withParts : Queues → ℕ → Queue → List ℕ → Queues
 withParts q k x w = record { count = q .count; records = set (q .records) k x; words = w }
+
+abbrev pub withWords : Queues → List ℕ → Queues
+withWords q w = record { count = q .count; records = q .records; words = w }
 
 abbrev pub withLen : Queue → ℕ → Queue
 withLen q n = record { domain = q .domain; attribute = q .attribute; first = q .first; len = n; capacity = q .capacity; vector = q .vector }
@@ -43,7 +45,10 @@ abbrev pushed : Queues → ℕ → ℕ → Queues
 pushed q k w = let r = recordIn q k in withParts q k (withLen r (r .len + 1)) (set (q .words) (r .first + r .len) w)
 
 abbrev popped : Queues → ℕ → Queues
-popped q k = let r = recordIn q k in withParts q k (withLen r (r .len - 1)) (closeUp (r .first) (r .len) (q .words))
+popped q k = let r = recordIn q k in withParts q k (withLen r (r .len - 1)) (closeUp (r .first) (r .len) 0 (q .words))
+
+abbrev refilled : Queues → ℕ → ℕ → Queues
+refilled q k w = let r = recordIn q k in withWords q (closeUp (r .first) (r .len) w (q .words))
 
 abbrev turned : Queues → ℕ → Vector → Queues
 turned q k v = withParts q k (withVector (recordIn q k) v) (q .words)
@@ -90,9 +95,25 @@ module _ (qs : List Model.Queue) (k : ℕ) (h : k < length qs) where
       let s = queuesAs qs in
       let b = drop 1 (q .buffer) in
       let n : length (q .buffer) - 1 ≡ length b = sym (length-drop 1 (q .buffer)) in
-      ap (λ (y : Queue). withParts s k (withLen y (y .len - 1)) (closeUp (y .first) (y .len) (s .words))) record-form
-      ∙ (λ i. withParts s k (withLen (recordOf q (start qs k)) (n i)) (closeUp (start qs k) (length (q .buffer)) (s .words)))
-      ∙ queue-form (withBuffer q b) refl (closeUp (start qs k) (length (q .buffer)) (s .words)) (words-close f k (withBuffer q b) h (r, (refl, refl)))
+      ap (λ (y : Queue). withParts s k (withLen y (y .len - 1)) (closeUp (y .first) (y .len) 0 (s .words))) record-form
+      ∙ (λ i. withParts s k (withLen (recordOf q (start qs k)) (n i)) (closeUp (start qs k) (length (q .buffer)) 0 (s .words)))
+      ∙ queue-form (withBuffer q b) refl (closeUp (start qs k) (length (q .buffer)) 0 (s .words)) (words-close f k (withBuffer q b) h 0 (r, part-pop (q .capacity) (q .buffer) r (buffer-fits f (suc k))))
+
+  refill-form : QueuesFit qs → (w : ℕ) → 0 < length (queueIn qs (suc k) .buffer) → refilled (queuesAs qs) k w ≡ queuesAs (setBuffer qs (suc k) (drop 1 (queueIn qs (suc k) .buffer) ++ (w ∷ [])))
+  unfolding queuesAs
+  refill-form f w r =
+      let q = queueIn qs (suc k) in
+      let s = queuesAs qs in
+      let b = drop 1 (q .buffer) ++ (w ∷ []) in
+      let d = length-drop 1 (q .buffer) in
+      let a = length-append (drop 1 (q .buffer)) (w ∷ []) in
+      let n : length (q .buffer) ≡ length b = omega arith in
+      let c = closeUp (start qs k) (length (q .buffer)) w (s .words) in
+      let o : s .records ≡ set (s .records) k (recordOf (withBuffer q b) (start qs k)) =
+      sym (set-getD (s .records) k noRecord) ∙ ap (set (s .records) k) (record-form ∙ (λ i. withLen (recordOf q (start qs k)) (n i))) in
+      ap (λ (y : Queue). withWords s (closeUp (y .first) (y .len) w (s .words))) record-form
+      ∙ (λ i. record { count = s .count; records = o i; words = c })
+      ∙ queue-form (withBuffer q b) refl c (words-close f k (withBuffer q b) h w (r, part-refill (q .capacity) (q .buffer) w r))
 
   vector-form : (v : Vector) → turned (queuesAs qs) k v ≡ queuesAs (setVectorOf room qs (suc k) v)
   unfolding queuesAs
@@ -144,11 +165,24 @@ module _ {q : Queues} (h : Held q) where
         row (x ∷ l) zero h = refl
         row (x ∷ l) (suc k) h = row l k (omega arith)
 
+    -- a buffer that has a word
+    pub some-seen : 0 < recordIn q k .len → 0 < length (queueIn (queuesOf q) (suc k) .buffer)
+    some-seen r = subst (λ (x : Queue). 0 < x .len) record-seen r
+
+    pub oldest-seen : 0 < recordIn q k .len → getD (q .words) (recordIn q k .first) 0 ≡ getD (queueIn (queuesOf q) (suc k) .buffer) 0 0
+    oldest-seen r =
+        let f = recordIn q k .first in
+        let z : f ≡ f + 0 = omega arith in
+        ap (λ (i : ℕ). getD (q .words) i 0) z ∙ word-seen 0 r
+
     pub push-link : (w : ℕ) → length (queueIn (queuesOf q) (suc k) .buffer) < queueIn (queuesOf q) (suc k) .capacity → pushed q k w ≡ queuesAs (setBuffer (queuesOf q) (suc k) (queueIn (queuesOf q) (suc k) .buffer ++ (w ∷ [])))
     push-link w r = ap (λ (x : Queues). pushed x k w) (h .form) ∙ push-form (queuesOf q) k l (h .fit) w r
 
     pub pop-link : 0 < length (queueIn (queuesOf q) (suc k) .buffer) → popped q k ≡ queuesAs (setBuffer (queuesOf q) (suc k) (drop 1 (queueIn (queuesOf q) (suc k) .buffer)))
     pop-link r = ap (λ (x : Queues). popped x k) (h .form) ∙ pop-form (queuesOf q) k l (h .fit) r
+
+    pub refill-link : (w : ℕ) → 0 < length (queueIn (queuesOf q) (suc k) .buffer) → refilled q k w ≡ queuesAs (setBuffer (queuesOf q) (suc k) (drop 1 (queueIn (queuesOf q) (suc k) .buffer) ++ (w ∷ [])))
+    refill-link w r = ap (λ (x : Queues). refilled x k w) (h .form) ∙ refill-form (queuesOf q) k l (h .fit) w r
 
     pub vector-link : (v : Vector) → turned q k v ≡ queuesAs (setVectorOf room (queuesOf q) (suc k) v)
     vector-link v = ap (λ (x : Queues). turned x k v) (h .form) ∙ vector-form (queuesOf q) k l v
@@ -192,43 +226,3 @@ module _ {q : Queues} (h : Held q) where
             let p = record-part i b in
             let f = ap (λ (x : Queue). x .first) s in
             (omega arith, ap (λ (j : ℕ). getD (q .words) (j + k) 0) f ∙ word-seen i b k (omega arith))
-
--- ---- queues that are a form
-module _ {q : Queues} {qs : List Model.Queue} (e : q ≡ queuesAs qs) (f : QueuesFit qs) where
-  pub is-held : Held q
-  is-held = subst (λ (x : Queues). Held x) (sym e) (held-as qs f)
-
-  pub is-seen : queuesOf q ≡ qs
-  is-seen = ap queuesOf e ∙ back-queues qs f
-
--- ---- the oldest word is gone; another comes last
-module _ {q : Queues} (h : Held q) (k : ℕ) (l : k < length (queuesOf q)) (n : 0 < length (queueIn (queuesOf q) (suc k) .buffer)) where
-  abbrev rest : List ℕ
-  rest = drop 1 (queueIn (queuesOf q) (suc k) .buffer)
-
-  abbrev holding : List ℕ → Model.Queue
-  holding b = withBuffer (queueIn (queuesOf q) (suc k)) b
-
-  pop-fits : QueuesFit (setBuffer (queuesOf q) (suc k) rest)
-  pop-fits = queues-put (h .fit) (suc k) (holding rest) refl (let f = buffer-fits (h .fit) (suc k) in let g = length-drop 1 (queueIn (queuesOf q) (suc k) .buffer) in omega arith)
-
-  module _ {p : Queues} (e : p ≡ queuesAs (setBuffer (queuesOf q) (suc k) rest)) where
-    at-pop : queueIn (queuesOf p) (suc k) ≡ holding rest
-    at-pop = ap (λ (x : List Model.Queue). queueIn x (suc k)) (is-seen e pop-fits) ∙ getD-set-same (queuesOf q) k (holding rest) Model.noQueue l
-
-    pub pop-room : Held p × (k < length (queuesOf p)) × (length (queueIn (queuesOf p) (suc k) .buffer) < queueIn (queuesOf p) (suc k) .capacity)
-    pop-room =
-        let u = ap (λ (x : List Model.Queue). length x) (is-seen e pop-fits) in
-        let s = length-set (queuesOf q) k (holding rest) in
-        let i = ap (λ (x : Model.Queue). length (x .buffer)) at-pop in
-        let j = ap (λ (x : Model.Queue). x .capacity) at-pop in
-        let f = buffer-fits (h .fit) (suc k) in
-        let g = length-drop 1 (queueIn (queuesOf q) (suc k) .buffer) in
-        (is-held e pop-fits, omega arith, omega arith)
-
-    pub refill-link : (w : ℕ) → queuesAs (setBuffer (queuesOf p) (suc k) (queueIn (queuesOf p) (suc k) .buffer ++ (w ∷ []))) ≡ queuesAs (setBuffer (queuesOf q) (suc k) (rest ++ (w ∷ [])))
-    refill-link w =
-        let v = is-seen e pop-fits in
-        let a = at-pop in
-        (λ i. queuesAs (set (v i) k (record { domain = a i .domain; attribute = a i .attribute; capacity = a i .capacity; buffer = a i .buffer ++ (w ∷ []); vector = a i .vector })))
-        ∙ ap queuesAs (set-set (queuesOf q) k (holding rest) (holding (rest ++ (w ∷ []))))

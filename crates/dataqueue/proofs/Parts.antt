@@ -114,29 +114,41 @@ spread-push (q ∷ qs) (suc k) x w h a p =
     ∙ set-past p₀ (spread qs) (q .capacity) (start qs k + n) w (pad-length 0 (q .capacity) (q .buffer) (a .0))
     ∙ ap (λ (z : List ℕ). p₀ ++ z) (spread-push qs k x w (omega arith) (a .1) p)
 
--- ---- the oldest word leaves
-spread-close : (qs : List Model.Queue) (k : ℕ) (x : Model.Queue) → k < length qs → All BufferFits qs
-    → (let q = getD qs k Model.noQueue in (0 < length (q .buffer)) × Refilled x q (drop 1 (q .buffer)))
-    → closeUp (start qs k) (length (getD qs k Model.noQueue .buffer)) (spread qs) ≡ spread (set qs k x)
+-- ---- the oldest word leaves, and w comes last
+-- x is q with a part that has moved up so
+abbrev pub MovedUp : Model.Queue → Model.Queue → ℕ → Type 0
+MovedUp x q w = (0 < length (q .buffer)) × (drop 1 (q .buffer) ++ (w ∷ replicate (q .capacity - length (q .buffer)) 0) ≡ pad (x .capacity) 0 (x .buffer))
+
+-- a 0 is no word more
+pub part-pop : (c : ℕ) (b : List ℕ) → 0 < length b → length b ≤ c → drop 1 b ++ (0 ∷ replicate (c - length b) 0) ≡ pad c 0 (drop 1 b)
+part-pop c b h k =
+    let n = length-drop 1 b in
+    let g : suc (c - length b) ≡ c - length (drop 1 b) = omega arith in
+    ap (λ (m : ℕ). drop 1 b ++ replicate m 0) g
+
+pub part-refill : (c : ℕ) (b : List ℕ) (w : ℕ) → 0 < length b → drop 1 b ++ (w ∷ replicate (c - length b) 0) ≡ pad c 0 (drop 1 b ++ (w ∷ []))
+part-refill c b w h =
+    let n = length-drop 1 b in
+    let m = length-append (drop 1 b) (w ∷ []) in
+    let g : length b ≡ length (drop 1 b ++ (w ∷ [])) = omega arith in
+    sym (append-assoc (drop 1 b) (w ∷ []) (replicate (c - length b) 0)) ∙ ap (λ (j : ℕ). (drop 1 b ++ (w ∷ [])) ++ replicate (c - j) 0) g
+
+spread-close : (qs : List Model.Queue) (k : ℕ) (x : Model.Queue) (w : ℕ) → k < length qs → All BufferFits qs → MovedUp x (getD qs k Model.noQueue) w
+    → closeUp (start qs k) (length (getD qs k Model.noQueue .buffer)) w (spread qs) ≡ spread (set qs k x)
 unfolding closeUp
-spread-close [] k x h a p = absurd (omega arith)
-spread-close (q ∷ qs) zero x h a p =
+spread-close [] k x w h a p = absurd (omega arith)
+spread-close (q ∷ qs) zero x w h a p =
     let b = q .buffer in
     let z : List ℕ = replicate (q .capacity - length b) 0 in
     let t : take (length b) ((b ++ z) ++ spread qs) ≡ b = ap (take (length b)) (append-assoc b z (spread qs)) ∙ take-append-seam b (z ++ spread qs) in
     let d : drop (length b) ((b ++ z) ++ spread qs) ≡ z ++ spread qs = ap (drop (length b)) (append-assoc b z (spread qs)) ∙ drop-append-seam b (z ++ spread qs) in
-    let n : length (drop 1 b) ≡ length b - 1 = length-drop 1 b in
-    let g : q .capacity - length (drop 1 b) ≡ suc (q .capacity - length b) = let u = p .0 in let v = a .0 in omega arith in
-    let c = p .1 .0 in
-    let y = p .1 .1 in
-    (λ i. drop 1 (t i) ++ (0 ∷ d i))
-    ∙ sym (append-assoc (drop 1 b) (replicate (suc (q .capacity - length b)) 0) (spread qs))
-    ∙ (λ i. (drop 1 b ++ replicate (sym g i) 0) ++ spread qs)
-    ∙ (λ i. pad (sym c i) 0 (sym y i) ++ spread qs)
-spread-close (q ∷ qs) (suc k) x h a p =
+    (λ i. drop 1 (t i) ++ (w ∷ d i))
+    ∙ sym (append-assoc (drop 1 b) (w ∷ z) (spread qs))
+    ∙ ap (λ (l : List ℕ). l ++ spread qs) (p .1)
+spread-close (q ∷ qs) (suc k) x w h a p =
     let p₀ : List ℕ = pad (q .capacity) 0 (q .buffer) in
-    close-past p₀ (spread qs) (q .capacity) (start qs k) (length (getD qs k Model.noQueue .buffer)) (pad-length 0 (q .capacity) (q .buffer) (a .0))
-    ∙ ap (λ (z : List ℕ). p₀ ++ z) (spread-close qs k x (omega arith) (a .1) p)
+    close-past p₀ (spread qs) (q .capacity) (start qs k) (length (getD qs k Model.noQueue .buffer)) w (pad-length 0 (q .capacity) (q .buffer) (a .0))
+    ∙ ap (λ (z : List ℕ). p₀ ++ z) (spread-close qs k x w (omega arith) (a .1) p)
 
 -- ---- the same, in the array of all words
 module _ {qs : List Model.Queue} (f : QueuesFit qs) (k : ℕ) (x : Model.Queue) (h : k < length qs) where
@@ -148,16 +160,16 @@ module _ {qs : List Model.Queue} (f : QueuesFit qs) (k : ℕ) (x : Model.Queue) 
       let r = p .0 in
       pad-set 0 maxWords (spread qs) (start qs k + length (getD qs k Model.noQueue .buffer)) w (omega arith) ∙ ap (pad maxWords 0) (spread-push qs k x w h (f .buffers) p)
 
-  pub words-close : (let q = getD qs k Model.noQueue in (0 < length (q .buffer)) × Refilled x q (drop 1 (q .buffer)))
-      → closeUp (start qs k) (length (getD qs k Model.noQueue .buffer)) (pad maxWords 0 (spread qs)) ≡ pad maxWords 0 (spread (set qs k x))
-  words-close p =
+  pub words-close : (w : ℕ) → MovedUp x (getD qs k Model.noQueue) w
+      → closeUp (start qs k) (length (getD qs k Model.noQueue .buffer)) w (pad maxWords 0 (spread qs)) ≡ pad maxWords 0 (spread (set qs k x))
+  words-close w p =
       let n = length (getD qs k Model.noQueue .buffer) in
       let b = part-fits qs k h in
       let a = buffer-fits f (suc k) in
       let l = spread-length qs (f .buffers) in
-      let e = spread-close qs k x h (f .buffers) p in
-      let s : length (spread qs) ≡ length (spread (set qs k x)) = sym (close-length (start qs k) n (spread qs) (p .0) (omega arith)) ∙ ap length e in
-      close-append (start qs k) n (spread qs) (replicate (maxWords - length (spread qs)) 0) (omega arith)
+      let e = spread-close qs k x w h (f .buffers) p in
+      let s : length (spread qs) ≡ length (spread (set qs k x)) = sym (close-length (start qs k) n w (spread qs) (p .0) (omega arith)) ∙ ap length e in
+      close-append (start qs k) n w (spread qs) (replicate (maxWords - length (spread qs)) 0) (omega arith)
       ∙ (λ i. e i ++ replicate (maxWords - s i) 0)
 
 pub spread-keep : (qs : List Model.Queue) (k : ℕ) (x : Model.Queue) → (let q = getD qs k Model.noQueue in Refilled x q (q .buffer)) → spread (set qs k x) ≡ spread qs

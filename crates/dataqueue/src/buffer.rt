@@ -2,7 +2,7 @@
 ghost use mathlib.Core.Path.{_≡_};
 ghost use mathlib.Core.List.{[], _∷_, _++_};
 ghost use Prim.Native.Nat.{suc, _+_, _≤_, _<_};
-ghost use lib.ListN.{length, getD, drop};
+ghost use lib.ListN.{length, drop};
 ghost use Rattle.itron.specs.Limits.{maxWords};
 ghost use Rattle.model.specs.Queues.{queueIn, setBuffer, hasRoom};
 ghost use Rattle.dataqueue.specs.View.{queuesOf};
@@ -12,10 +12,10 @@ ghost use Rattle.dataqueue.specs.Buffers.{closeUp};
 use crate::state::Queues;
 use itron::limit::MAX_WORDS;
 
-// Without the first of the words of a part: the others move up, and a 0 comes last.
-pub(crate) fn close_up(words: &mut [u32; MAX_WORDS], first: usize, len: usize)
+// Without the first of the words of a part: the others move up, and another comes last.
+pub(crate) fn close_up(words: &mut [u32; MAX_WORDS], first: usize, len: usize, word: u32)
     requires { ⌜ (0 < len) × (first + len ≤ maxWords) × (length (now words) ≡ maxWords) ⌝ }
-    ensures { λ r. ⌜ now (words .exit) ≡ closeUp first len (now (words .entry)) ⌝ }
+    ensures { λ r. ⌜ now (words .exit) ≡ closeUp first len word (now (words .entry)) ⌝ }
 {
     let last = first + len - 1;
     let mut i = first;
@@ -23,28 +23,10 @@ pub(crate) fn close_up(words: &mut [u32; MAX_WORDS], first: usize, len: usize)
         words[i] = words[i + 1];
         i += 1;
     }
-    words[last] = 0;
+    words[last] = word;
 }
 
 impl Queues {
-    // How many words are buffered.
-    pub(crate) fn buffered(self, object: usize) -> usize
-        requires { ⌜ Held self × (object < length (queuesOf self)) ⌝ }
-        ensures { λ r. ⌜ r ≡ length (queueIn (queuesOf self) (suc object) .buffer) ⌝ }
-    {
-        let queue = self.records[object];
-        queue.len
-    }
-
-    // How many words can be buffered.
-    pub(crate) fn capacity(self, object: usize) -> usize
-        requires { ⌜ Held self × (object < length (queuesOf self)) ⌝ }
-        ensures { λ r. ⌜ r ≡ queueIn (queuesOf self) (suc object) .capacity ⌝ }
-    {
-        let queue = self.records[object];
-        queue.capacity
-    }
-
     // Whether one word more can be buffered.
     pub(crate) fn has_room(self, object: usize) -> bool
         requires { ⌜ Held self × (object < length (queuesOf self)) ⌝ }
@@ -52,16 +34,6 @@ impl Queues {
     {
         let queue = self.records[object];
         queue.len < queue.capacity
-    }
-
-    // The oldest word of a buffer that has one.
-    pub(crate) fn oldest(self, object: usize) -> u32
-        requires { ⌜ Held self × (object < length (queuesOf self)) × (0 < length (queueIn (queuesOf self) (suc object) .buffer)) ⌝ }
-        ensures { λ r. ⌜ r ≡ getD (queueIn (queuesOf self) (suc object) .buffer) 0 0 ⌝ }
-    {
-        let queue = self.records[object];
-        let first = queue.first;
-        self.words[first]
     }
 
     // A word goes last into a buffer that has room.
@@ -83,18 +55,19 @@ impl Queues {
         ensures { λ r. ⌜ r ≡ queuesAs (setBuffer (queuesOf self) (suc object) (drop 1 (queueIn (queuesOf self) (suc object) .buffer))) ⌝ }
     {
         let mut queue = self.records[object];
-        close_up(&mut self.words, queue.first, queue.len);
+        close_up(&mut self.words, queue.first, queue.len, 0);
         queue.len = queue.len - 1;
         self.records[object] = queue;
         self
     }
 
     // The oldest word leaves a buffer that has one, and another goes last into it.
-    pub(crate) fn refill(self, object: usize, word: u32) -> Queues
+    pub(crate) fn refill(mut self, object: usize, word: u32) -> Queues
         requires { ⌜ Held self × (object < length (queuesOf self)) × (0 < length (queueIn (queuesOf self) (suc object) .buffer)) ⌝ }
         ensures { λ r. ⌜ r ≡ queuesAs (setBuffer (queuesOf self) (suc object) (drop 1 (queueIn (queuesOf self) (suc object) .buffer) ++ (word ∷ []))) ⌝ }
     {
-        let rest = self.pop(object);
-        rest.push(object, word)
+        let queue = self.records[object];
+        close_up(&mut self.words, queue.first, queue.len, word);
+        self
     }
 }

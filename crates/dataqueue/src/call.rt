@@ -112,7 +112,8 @@ pub(crate) fn receive(
     ensures { λ r. ⌜ r ≡ effectAs (domainsOf tasks) (onReceive (waitsOf tasks) (queuesOf queues) (suc task) (suc object) patience) ⌝ }
 {
     let sender = tasks.first(Side::Sending, object);
-    if queues.buffered(object) == 0 {
+    let queue = queues.records[object];
+    if queue.len == 0 {
         return match sender {
             First::Waiter(from, sent) => ended(tasks.wake(from, sent, 0), queues),
             First::Nobody => ended(
@@ -121,7 +122,8 @@ pub(crate) fn receive(
             ),
         };
     }
-    let word = queues.oldest(object);
+    let first = queue.first;
+    let word = queues.words[first];
     match sender {
         First::Waiter(from, sent) => ended(tasks.wake(from, word, 0), queues.refill(object, sent)),
         First::Nobody => done(tasks, queues.pop(object), word),
@@ -133,13 +135,14 @@ pub(crate) fn force(tasks: Tasks, queues: Queues, object: usize, word: u32) -> E
     requires { ⌜ TasksHeld.Held tasks × Held queues × (object < length (queuesOf queues)) ⌝ }
     ensures { λ r. ⌜ r ≡ effectAs (domainsOf tasks) (onForce (waitsOf tasks) (queuesOf queues) (suc object) word) ⌝ }
 {
-    if queues.capacity(object) == 0 {
+    let queue = queues.records[object];
+    if queue.capacity == 0 {
         return refused(tasks, queues, E_ILUSE);
     }
     match tasks.first(Side::Receiving, object) {
         First::Waiter(taker, _) => ended(tasks.wake(taker, 0, word), queues),
         First::Nobody => {
-            if queues.has_room(object) {
+            if queue.len < queue.capacity {
                 return done(tasks, queues.push(object, word), 0);
             }
             done(tasks, queues.refill(object, word), 0)
@@ -172,8 +175,9 @@ pub(crate) fn refer(tasks: Tasks, queues: Queues, object: usize) -> Effect
 {
     let first = tasks.first_number(Side::Sending, object);
     let second = tasks.first_number(Side::Receiving, object);
-    let amount = queues.buffered(object) as u32;
-    let vector = queues.vector(object);
+    let queue = queues.records[object];
+    let amount = queue.len as u32;
+    let vector = queue.vector;
     Effect {
         reply: Reply::plain(E_OK, 0),
         info: Info {

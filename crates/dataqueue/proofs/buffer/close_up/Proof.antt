@@ -7,15 +7,15 @@ use Prim.Native.Nat.{ℕ}
 use lib.ListN.{getD, set}
 use Rattle.dataqueue.specs.Buffers.{closeUp}
 use Rattle.arrays.proofs.Fills.{filled, fill-step, fill-ahead}
-use Rattle.dataqueue.proofs.CloseUp.{close-length, close-move, close-zero, close-start, close-end}
+use Rattle.dataqueue.proofs.CloseUp.{close-length, close-move, close-last, close-start, close-end}
 use Rattle.dataqueue.proofs.buffer.close_up.Statement.{statement}
 use Rattle.dataqueue.proofs.buffer.close_up.Tie as tie
 
 abbrev Inv-loop : tie.InvT-loop
-Inv-loop words₀ first len last i₀ words i = (first ≤ i) × (i ≤ last) × (words ≡ filled (closeUp first len words₀) words₀ i)
+Inv-loop words₀ first len word last i₀ words i = (first ≤ i) × (i ≤ last) × (words ≡ filled (closeUp first len word words₀) words₀ i)
 
 abbrev μ-loop : tie.MeasureT-loop
-μ-loop words₀ first len last i₀ words i = last - i
+μ-loop words₀ first len word last i₀ words i = last - i
 
 add-last : tie.Need-add-last Inv-loop μ-loop
 add-last c = omega arith
@@ -27,7 +27,7 @@ loop-holds : tie.Need-loop-holds Inv-loop μ-loop
 loop-holds c =
     let a = c .args in
     let l = c .pre .2 in
-    (omega arith, omega arith, sym (close-start (a .first) (a .len) (a .words .now) (omega arith)))
+    (omega arith, omega arith, sym (close-start (a .first) (a .len) (a .word) (a .words .now) (omega arith)))
 
 add-words : tie.Need-add-words Inv-loop μ-loop
 add-words c = omega arith
@@ -56,12 +56,12 @@ loop-again c =
     let v = c .before .before .loop .inv in
     let i = c .before .before .loop .i in
     let o = a .words .now in
-    let r = closeUp (a .first) (a .len) o in
+    let r = closeUp (a .first) (a .len) (a .word) o in
     let l = c .before .before .before .pre .2 in
-    let n = close-length (a .first) (a .len) o (omega arith) (omega arith) in
+    let n = close-length (a .first) (a .len) (a .word) o (omega arith) (omega arith) in
     let w = v .2 in
     let g : getD (c .before .before .loop .words) (i + 1) 0 ≡ getD o (i + 1) 0 = ap (λ (z : List ℕ). getD z (i + 1) 0) w ∙ fill-ahead r o i (i + 1) 0 (omega arith) (omega arith) (omega arith) in
-    (omega arith, omega arith, (λ j. set (w j) i (g j)) ∙ fill-step r o i (getD o (i + 1) 0) 0 n (omega arith) (close-move (a .first) (a .len) o i (omega arith) (omega arith) (omega arith)))
+    (omega arith, omega arith, (λ j. set (w j) i (g j)) ∙ fill-step r o i (getD o (i + 1) 0) 0 n (omega arith) (close-move (a .first) (a .len) (a .word) o i (omega arith) (omega arith) (omega arith)))
 
 mul-words-3 : tie.Need-mul-words-3 Inv-loop μ-loop
 mul-words-3 c = omega arith
@@ -76,13 +76,13 @@ returns c =
     let i = c .before .loop .i in
     let o = a .words .now in
     let n = a .first + a .len - 1 in
-    let r = closeUp (a .first) (a .len) o in
+    let r = closeUp (a .first) (a .len) (a .word) o in
     let l = c .before .before .pre .2 in
     let e : i ≡ n = omega arith in
     let g : n + 1 ≡ a .first + a .len = omega arith in
-    ap (λ (z : List ℕ). set z n 0) (v .2 ∙ ap (filled r o) e)
-    ∙ fill-step r o n 0 0 (close-length (a .first) (a .len) o (omega arith) (omega arith)) (omega arith) (close-zero (a .first) (a .len) o (omega arith) (omega arith))
-    ∙ ap (filled r o) g ∙ close-end (a .first) (a .len) o (omega arith) (omega arith)
+    ap (λ (z : List ℕ). set z n (a .word)) (v .2 ∙ ap (filled r o) e)
+    ∙ fill-step r o n (a .word) 0 (close-length (a .first) (a .len) (a .word) o (omega arith) (omega arith)) (omega arith) (close-last (a .first) (a .len) (a .word) o (omega arith) (omega arith))
+    ∙ ap (filled r o) g ∙ close-end (a .first) (a .len) (a .word) o (omega arith) (omega arith)
 
 pub close-up-spec : {M : Type 1} → statement M
 close-up-spec =

@@ -1,12 +1,12 @@
 -- `call::force` meets its contract. Assumes nothing.
 use borrow.Author.Needs.{needs}
-use Prim.Native.Nat.{suc, _<_}
+use Prim.Native.Nat.{suc, _<_, _≤_}
 use native.Mathlib.Omega.{arith}
-use mathlib.Core.Path.{_≡_, sym, _∙_}
+use mathlib.Core.Path.{_≡_, sym, subst, ap, _∙_}
 use mathlib.Core.List.{[]}
 use mathlib.Core.Logic.{_≢_}
 use lib.ListN.{length}
-use borrow.Author.Tests.{ltb-true, ltb-false}
+use borrow.Author.Tests.{lt-ltb, le-ltb}
 use Rattle.model.specs.State.{place}
 use Rattle.model.specs.Waits.{waitersIn}
 use Rattle.model.specs.Queues.{queueIn}
@@ -14,12 +14,17 @@ use Rattle.model.specs.declared.Side.the-variants.{Receiving}
 use Rattle.tasks.specs.View.{waitsOf}
 use Rattle.tasks.proofs.Firsts.{Waits, waits, no-first}
 use Rattle.dataqueue.specs.View.{queuesOf}
+use Rattle.dataqueue.specs.declared.state.Queue.{Queue}
+use Rattle.dataqueue.proofs.Links.{record-seen}
 use Rattle.dataqueue.proofs.Effects.{force-misused, force-wakes, force-stores, force-drops}
 use Rattle.dataqueue.proofs.call.force.Statement.{statement}
 use Rattle.dataqueue.proofs.call.force.Tie as tie
 
-capacity-requires : tie.Need-capacity-requires
-capacity-requires c κs = search needs
+mul-queue : tie.Need-mul-queue
+mul-queue c = search needs
+
+element-copy-out-queue : tie.Need-element-copy-out-queue
+element-copy-out-queue c = search needs
 
 refused-requires : tie.Need-refused-requires
 refused-requires c κs = search needs
@@ -27,12 +32,14 @@ refused-requires c κs = search needs
 returns : tie.Need-returns
 returns c =
     let t = c .before in
-    let b = t .before .before in
-    c .refused .ensures ∙ force-misused (b .pre .0) (b .pre .1) (b .args .object) (b .args .word) (sym (t .before .capacity .ensures) ∙ t .if1 .taken)
+    let b = t .before .before .before in
+    c .refused .ensures ∙ force-misused (b .pre .0) (b .pre .1) (b .args .object) (b .args .word) (sym (ap (λ (q : Queue). q .capacity) (record-seen (b .pre .1) (b .args .object) (b .pre .2))) ∙ t .if1 .taken)
 
 -- it can hold a word
-some : (c : tie.Else1) → let b = c .before .before in queueIn (queuesOf (b .args .queues)) (suc (b .args .object)) .capacity ≢ 0
-some c e = c .if1 .left (c .before .capacity .ensures ∙ e)
+some : (c : tie.Else1) → let b = c .before .before .before in queueIn (queuesOf (b .args .t2)) (suc (b .args .object)) .capacity ≢ 0
+some c e =
+    let b = c .before .before .before in
+    c .if1 .left (ap (λ (q : Queue). q .capacity) (record-seen (b .pre .1) (b .args .object) (b .pre .2)) ∙ e)
 
 first-requires : tie.Need-first-requires
 first-requires c κs = search needs
@@ -41,14 +48,14 @@ enum-known-taker : tie.Need-enum-known-taker
 enum-known-taker c = search needs
 
 -- who is first to receive
-first-at : (c : tie.After-taker) → let b = c .before .before .before .before .before in Waits (b .args .tasks) (place Receiving (suc (b .args .object))) (c .taker .given .0 .0) (c .taker .given .0 .1 .0)
+first-at : (c : tie.After-taker) → let b = c .before .before .before .before .before .before in Waits (b .args .tasks) (place Receiving (suc (b .args .object))) (c .taker .given .0 .0) (c .taker .given .0 .1 .0)
 first-at c =
     let f = c .before .before in
-    let b = f .before .before .before in
+    let b = f .before .before .before .before in
     waits (b .pre .0) (place Receiving (suc (b .args .object))) _ _ (sym (f .first .ensures) ∙ c .taker .given .1)
 
 wake-requires : tie.Need-wake-requires
-wake-requires c κs = (c .before .before .before .before .before .before .pre .0, first-at (c .before) .low)
+wake-requires c κs = (c .before .before .before .before .before .before .before .pre .0, first-at (c .before) .low)
 
 ended-requires : tie.Need-ended-requires
 ended-requires c κs = search needs
@@ -56,20 +63,27 @@ ended-requires c κs = search needs
 enum-told : tie.Need-enum-told
 enum-told c = search needs
 
-nobody : (c : tie.After-enum-told) → let b = c .before .before .before .before .before in waitersIn (waitsOf (b .args .tasks)) (place Receiving (suc (b .args .object))) ≡ []
+nobody : (c : tie.After-enum-told) → let b = c .before .before .before .before .before .before in waitersIn (waitsOf (b .args .tasks)) (place Receiving (suc (b .args .object))) ≡ []
 nobody c =
     let f = c .before .before in
-    let b = f .before .before .before in
+    let b = f .before .before .before .before in
     no-first (waitersIn (waitsOf (b .args .tasks)) (place Receiving (suc (b .args .object)))) (f .first .result) (f .first .ensures) (c .before .match .keys2)
 
-has-room-requires : tie.Need-has-room-requires
-has-room-requires c κs = search needs
+-- whether there is room for it
+roomy : (c : tie.Then2) → let b = c .before .before .before .before .before .before .before .before in let q = queueIn (queuesOf (b .args .t2)) (suc (b .args .object)) in length (q .buffer) < q .capacity
+roomy c =
+    let b = c .before .before .before .before .before .before .before .before in
+    subst (λ (q : Queue). q .len < q .capacity) (record-seen (b .pre .1) (b .args .object) (b .pre .2)) (c .if2 .taken)
+
+full : (c : tie.Else2) → let b = c .before .before .before .before .before .before .before .before in let q = queueIn (queuesOf (b .args .t2)) (suc (b .args .object)) in q .capacity ≤ length (q .buffer)
+full c =
+    let b = c .before .before .before .before .before .before .before .before in
+    subst (λ (q : Queue). q .capacity ≤ q .len) (record-seen (b .pre .1) (b .args .object) (b .pre .2)) (c .if2 .left)
 
 push-requires : tie.Need-push-requires
 push-requires c κs =
-    let b = c .before .before .before .before .before .before .before in
-    let q = queueIn (queuesOf (b .args .queues)) (suc (b .args .object)) in
-    (b .pre .1, b .pre .2, ltb-true (length (q .buffer)) (q .capacity) (sym (c .before .has-room .ensures) ∙ c .if2 .taken))
+    let b = c .before .before .before .before .before .before .before .before in
+    (b .pre .1, b .pre .2, roomy c)
 
 done-requires : tie.Need-done-requires
 done-requires c κs = search needs
@@ -79,17 +93,17 @@ returns-2 c =
     let u = c .before in
     let h = u .before .before in
     let s = h .before .before .before .before in
-    let b = s .before .before in
+    let b = s .before .before .before in
     let a = b .args in
-    c .done .ensures ∙ force-stores (b .pre .0) (b .pre .1) (a .object) (a .word) (some s) (nobody (h .before)) (sym (h .has-room .ensures) ∙ u .before .if2 .taken) _ (u .push .ensures)
+    c .done .ensures ∙ force-stores (b .pre .0) (b .pre .1) (a .object) (a .word) (some s) (nobody (h .before)) (lt-ltb _ _ (roomy (u .before))) _ (u .push .ensures)
 
 -- what is full and can hold a word holds one
 refill-requires : tie.Need-refill-requires
 refill-requires c κs =
     let s = c .before .before .before .before .before in
-    let b = s .before .before in
-    let q = queueIn (queuesOf (b .args .queues)) (suc (b .args .object)) in
-    let l = ltb-false (length (q .buffer)) (q .capacity) (sym (c .before .has-room .ensures) ∙ c .if2 .left) in
+    let b = s .before .before .before in
+    let q = queueIn (queuesOf (b .args .t2)) (suc (b .args .object)) in
+    let l : q .capacity ≤ length (q .buffer) = full c in
     let n : q .capacity ≢ 0 = some s in
     (b .pre .1, b .pre .2, omega (arith, l, n))
 
@@ -101,7 +115,7 @@ returns-3 c =
     let w = c .before in
     let k = w .before .before in
     let s = k .before .before .before in
-    let b = s .before .before in
+    let b = s .before .before .before in
     let a = b .args in
     c .ended .ensures ∙ force-wakes (b .pre .0) (b .pre .1) (a .object) (a .word) (some s) (first-at k) _ (w .wake .ensures)
 
@@ -110,15 +124,16 @@ returns-4 c =
     let u = c .before in
     let h = u .before .before in
     let s = h .before .before .before .before in
-    let b = s .before .before in
+    let b = s .before .before .before in
     let a = b .args in
-    c .done2 .ensures ∙ force-drops (b .pre .0) (b .pre .1) (a .object) (a .word) (some s) (nobody (h .before)) (sym (h .has-room .ensures) ∙ u .before .if2 .left) _ (u .refill .ensures)
+    c .done2 .ensures ∙ force-drops (b .pre .0) (b .pre .1) (a .object) (a .word) (some s) (nobody (h .before)) (le-ltb _ _ (full (u .before))) _ (u .refill .ensures)
 
 pub force-spec : {M : Type 1} → statement M
 force-spec =
     tie.close
     (tie.spec
-    capacity-requires
+    mul-queue
+    element-copy-out-queue
     refused-requires
     returns
     first-requires
@@ -126,7 +141,6 @@ force-spec =
     wake-requires
     ended-requires
     enum-told
-    has-room-requires
     push-requires
     done-requires
     returns-2

@@ -1,6 +1,5 @@
 -- `Queues::pop` meets its contract. Assumes nothing.
 use lib.ListN.{length}
--- `Queues::pop` meets its contract. Assumes nothing.
 use borrow.Author.Needs.{needs}
 use Prim.Native.Nat.{_+_, _-_, _<_, _≤_}
 use native.Mathlib.Omega.{arith}
