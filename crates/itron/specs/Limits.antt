@@ -30,6 +30,10 @@ maxCapacity = 256
 abbrev pub maxCount : ℕ
 maxCount = 65535
 
+-- a task's priority is a number from 1, the most urgent, to this (request T-10)
+abbrev pub maxPriority : ℕ
+maxPriority = 16
+
 -- 2^32, the first number that is no address
 abbrev pub addressEnd : ℕ
 addressEnd = 4294967296
@@ -44,4 +48,4 @@ maxUnitPower = 16
 
 -- all of them: what the program's numbers are tied to
 abbrev pub limits : Limits
-limits = record { domains = maxDomains; tasks = maxTasks; semaphores = maxSemaphores; queues = maxQueues; regions = maxRegions; words = maxWords; capacity = maxCapacity; count = maxCount; addresses = addressEnd; finest = minUnit; coarsest = 2 ^ maxUnitPower }
+limits = record { domains = maxDomains; tasks = maxTasks; semaphores = maxSemaphores; queues = maxQueues; regions = maxRegions; words = maxWords; capacity = maxCapacity; count = maxCount; priority = maxPriority; addresses = addressEnd; finest = minUnit; coarsest = 2 ^ maxUnitPower }

@@ -1,4 +1,4 @@
-// The limits of documents 01 and 02 ("What the core holds", "Building the table"; requests T-06 and T-07), each written once.
+// The limits of documents 01 and 02 ("What the core holds", "Building the table"; requests T-06, T-07 and T-10), each written once.
 ghost use mathlib.Core.Path.{_≡_};
 ghost use Rattle.itron.specs.Limits as Specified;
 
@@ -22,6 +22,9 @@ pub const MAX_CAPACITY: u32 = 256;
 // The largest maximum count of a semaphore.
 pub const MAX_COUNT: u32 = 65_535;
 
+// The least urgent priority of a task; 1 is the most urgent.
+pub const MAX_PRIORITY: u32 = 16;
+
 // The first number that is no address.
 pub const ADDRESS_END: u64 = 4_294_967_296;
 
@@ -41,6 +44,7 @@ pub struct Limits {
     pub words: usize,
     pub capacity: u32,
     pub count: u32,
+    pub priority: u32,
     pub addresses: u64,
     pub finest: u32,
     pub coarsest: u32,
@@ -60,6 +64,7 @@ impl Limits {
             words: MAX_WORDS,
             capacity: MAX_CAPACITY,
             count: MAX_COUNT,
+            priority: MAX_PRIORITY,
             addresses: ADDRESS_END,
             finest: MIN_UNIT,
             coarsest: MAX_UNIT,

@@ -6,10 +6,10 @@ use mathlib.Core.List.{List, [], _∷_}
 use Prim.Native.Nat.{ℕ, zero, suc, _≤_, _∣_}
 use lib.ListN.{length}
 use lib.IntN.{ℤ, pos, negsuc}
-use Rattle.itron.specs.Limits.{maxDomains, maxTasks, maxSemaphores, maxQueues, maxRegions, maxWords, maxCapacity, maxCount, addressEnd}
+use Rattle.itron.specs.Limits.{maxDomains, maxTasks, maxPriority, maxSemaphores, maxQueues, maxRegions, maxWords, maxCapacity, maxCount, addressEnd}
 use Rattle.model.specs.Lists.{All}
-use Rattle.model.specs.State.{Sem, Waiter, Fixed, Side, onSem, receiving, sending, State, Queue, Region, place, queueAt, semAt}
-use Rattle.model.specs.Waits.{senders, receivers, waitersAt, absent}
+use Rattle.model.specs.State.{TaskEntry, Sem, Waiter, Fixed, Side, onSem, receiving, sending, State, Queue, Region, place, queueAt, semAt}
+use Rattle.model.specs.Waits.{waitersAt, absent}
 use Rattle.model.specs.Queues.{wordsUsed}
 use Rattle.model.specs.Units.{unitOk}
 use Rattle.model.specs.Regions.{end}
@@ -33,10 +33,10 @@ WordFits sending w = Unit
 abbrev pub Plain : Waiter → Type 0
 Plain e = (e .place .number ≢ 0) × WordFits (e .place .side) (e .word)
 
-pub record WaitsFit (domains : List ℤ) (waits : List Waiter) : Type 0 where
-  pub tasks : length domains ≤ maxTasks
+pub record WaitsFit (entries : List TaskEntry) (waits : List Waiter) : Type 0 where
+  pub tasks : length entries ≤ maxTasks
   pub distinct : Distinct waits
-  pub known : All (Known (length domains)) waits
+  pub known : All (Known (length entries)) waits
   pub plain : All Plain waits
 
 -- ---- the data queues: no more words than the capacity, and within the total
@@ -72,7 +72,7 @@ pub record UnitFits (f : Fixed) : Type 0 where
 
 -- ---- the state keeps the limits of documents 01 and 02
 pub record Fit (s : State) : Type 0 where
-  pub waits : WaitsFit (s .fixed .domains) (s .waits)
+  pub waits : WaitsFit (s .fixed .tasks) (s .waits)
   pub sems : length (s .sems) ≤ maxSemaphores
   pub queues : QueuesFit (s .queues)
   pub regions : RegionsFit (s .fixed .regions)
@@ -94,13 +94,21 @@ Owner n (negsuc (suc (suc k))) = ⊥
 abbrev pub RegionAttribute : ℕ → Type 0
 RegionAttribute a = (((a ≡ 0) ⊎ (a ≡ 1)) ⊎ (a ≡ 4)) ⊎ (a ≡ 5)
 
+-- a priority from 1 to its limit
+abbrev pub TaskEntryFits : ℕ → TaskEntry → Type 0
+TaskEntryFits n x = TaskOwner n (x .domain) × (1 ≤ x .priority) × (x .priority ≤ maxPriority)
+
+-- attribute 0 or 1, the order in which its waiters stand
+abbrev pub OrderAttribute : ℕ → Type 0
+OrderAttribute a = (a ≡ 0) ⊎ (a ≡ 1)
+
 -- "semaphore needs 1 <= max <= 65,535"; its count is in Within
 abbrev pub SemEntryFits : ℕ → Sem → Type 0
-SemEntryFits n x = Owner n (x .domain) × (x .attribute ≡ 0) × (1 ≤ x .max) × (x .max ≤ maxCount)
+SemEntryFits n x = Owner n (x .domain) × OrderAttribute (x .attribute) × (1 ≤ x .max) × (x .max ≤ maxCount)
 
 -- queue capacity 0 to its limit; the total is in QueuesFit
 abbrev pub QueueEntryFits : ℕ → Queue → Type 0
-QueueEntryFits n q = Owner n (q .domain) × (q .attribute ≡ 0) × (q .capacity ≤ maxCapacity)
+QueueEntryFits n q = Owner n (q .domain) × OrderAttribute (q .attribute) × (q .capacity ≤ maxCapacity)
 
 -- its numbers are in RegionsFit and UnitFits
 abbrev pub RegionEntryFits : ℕ → Region → Type 0
@@ -109,7 +117,7 @@ RegionEntryFits n r = Owner n (r .domain) × RegionAttribute (r .attribute)
 -- "n from 0 to 32"; owner, attribute and numbers of every entry
 pub record EntriesFit (s : State) : Type 0 where
   pub domains : s .fixed .count ≤ maxDomains
-  pub tasks : All (TaskOwner (s .fixed .count)) (s .fixed .domains)
+  pub tasks : All (TaskEntryFits (s .fixed .count)) (s .fixed .tasks)
   pub sems : All (SemEntryFits (s .fixed .count)) (s .sems)
   pub queues : All (QueueEntryFits (s .fixed .count)) (s .queues)
   pub regions : All (RegionEntryFits (s .fixed .count)) (s .fixed .regions)
@@ -135,7 +143,7 @@ Spent s i = (waitersAt s (place onSem i) ≡ []) ⊎ (semAt s i .count ≡ 0)
 abbrev pub NoWords : Queue → Type 0
 NoWords q = q .buffer ≡ []
 
--- what is seen of one queue
+-- what is seen of one queue; of those who wait, in whatever order
 pub record QView : Type 0 where
   pub capacity : ℕ
   pub buffer : List ℕ
@@ -146,7 +154,7 @@ abbrev pub qview : ℕ → List ℕ → List Waiter → List Waiter → QView
 qview c b x y = record { capacity = c; buffer = b; senders = x; receivers = y }
 
 abbrev pub qviewOf : State → ℕ → QView
-qviewOf s q = qview (queueAt s q .capacity) (queueAt s q .buffer) (senders s q) (receivers s q)
+qviewOf s q = qview (queueAt s q .capacity) (queueAt s q .buffer) (waitersAt s (place sending q)) (waitersAt s (place receiving q))
 
 -- who waits to receive finds nothing; who waits to send finds no room
 pub record QueueOk (v : QView) : Type 0 where

@@ -3,7 +3,7 @@ use mathlib.Core.Path.{_≡_}
 use mathlib.Core.List.{[]}
 use Prim.Native.Nat.{ℕ}
 use Rattle.model.specs.Lists.{Each}
-use Rattle.model.specs.State.{State, semAt, queueAt, domainAt}
+use Rattle.model.specs.State.{State, semAt, queueAt, domainAt, priorityAt}
 use Rattle.model.specs.Waits.{senders}
 use Rattle.model.specs.History.{History, pending}
 use Rattle.model.specs.SemaphoreClaims.{bySemaphore, Counted}
@@ -14,7 +14,7 @@ use Rattle.model.specs.Releases.{ReleasesWaiters}
 pub record Demand3 (s₀ : State) (h : History) (s : State) : Type 0 where
   -- for every queue, of the calls as it saw them: every accepted word is in one place, in order; each came from and went to whom the queue's vector admitted,
   -- and the waiting senders are those whose send answered "waiting" and whose release no later answer shows
-  pub queues : (q : ℕ) → Carried (domainAt s₀) (queueAt s₀ q) (byQueue q h) (queueAt s q .buffer) (senders s q)
+  pub queues : (q : ℕ) → Carried (domainAt s₀) (priorityAt s₀) (queueAt s₀ q) (byQueue q h) (queueAt s q .buffer) (senders s q)
   -- for every semaphore: count + grants = start + accepted signals
   pub semaphores : (i : ℕ) → Counted (semAt s₀ i .count) (bySemaphore i h) (semAt s i .count)
   -- all who wait are exactly those whose call answered "waiting" and whose release no later answer shows, each where that call put it, in call order

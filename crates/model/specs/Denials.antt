@@ -20,7 +20,7 @@ use Rattle.model.specs.QueueClaims as Queues
 -- ---- what the checks before E_OACV ask
 -- the table is closed and the caller is a registered ready task
 abbrev pub Ready : State → ℕ → Type 0
-Ready s t = (s .fixed .closed ≡ true) × (((t ≢ 0) × (t ≤ length (s .fixed .domains))) × All (λ (e : Waiter). t ≢ e .task) (s .waits))
+Ready s t = (s .fixed .closed ≡ true) × (((t ≢ 0) × (t ≤ length (s .fixed .tasks))) × All (λ (e : Waiter). t ≢ e .task) (s .waits))
 
 -- the number of the object that a call names, the limit of its kind, and how many of the kind are registered
 pub record Named : Type 0 where

@@ -1,8 +1,9 @@
 -- Lists whose elements are numbered from 1, and choosing from lists. Definitions only.
-use mathlib.Core.Bool.{Bool, true, false, _||_}
+use mathlib.Core.Bool.{Bool, true, false, cond, _||_}
 use mathlib.Core.Logic.{_⊎_}
 use mathlib.Core.List.{List, [], _∷_, _++_, map}
 use Prim.Native.Nat.{ℕ, zero, suc, _+_}
+use lib.Dec.{leb}
 use lib.ListN.{getD, set}
 
 -- the index of a number: numbers count from 1, indexes from 0
@@ -40,6 +41,17 @@ module _ {A : Type 0} where
   abbrev pub beginnings : List A → List (List A)
   beginnings [] = []
   beginnings (x ∷ l) = (x ∷ []) ∷ map (λ (b : List A). x ∷ b) (beginnings l)
+
+  -- ---- the elements by rank, the lowest first, those of equal rank in their order
+  module _ (rank : A → ℕ) where
+    -- an element that came before all of a list: behind those of lower rank, ahead of the others
+    abbrev pub insert : A → List A → List A
+    insert x [] = x ∷ []
+    insert x (y ∷ l) = cond (leb (rank x) (rank y)) (x ∷ (y ∷ l)) (y ∷ insert x l)
+
+    abbrev pub arrange : List A → List A
+    arrange [] = []
+    arrange (x ∷ l) = insert x (arrange l)
 
   -- a claim about every element
   abbrev pub All : (A → Type 0) → List A → Type 0

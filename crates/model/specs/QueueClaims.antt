@@ -3,7 +3,7 @@ use mathlib.Core.Path.{_≡_}
 use mathlib.Core.Bool.{Bool, true, false, cond, _&&_}
 use mathlib.Core.List.{List, [], _∷_, _++_, map}
 use mathlib.Core.Option.{Option, none, some}
-use Prim.Native.Nat.{ℕ, _+_}
+use Prim.Native.Nat.{ℕ, _+_, _≤_}
 use lib.Dec.{eqb, T}
 use lib.IntN.{ℤ}
 use lib.ListN.{length}
@@ -46,6 +46,15 @@ senderIn x = record { task = x .task; word = x .word }
 
 abbrev pub wordsIn : List Waiter → List ℕ
 wordsIn l = map (λ (e : Waiter). e .word) l
+
+-- ---- the line of a queue in which a task sends, by the tasks' priorities: there is one line, 0; in a queue with attribute 1 there is one for each priority (request T-10)
+abbrev pub lineOf : (ℕ → ℕ) → Queue → ℕ → ℕ
+lineOf priority x t = cond (eqb (x .attribute) 1) (priority t) 0
+
+-- the lines in ascending order, each any number of times
+abbrev pub Rising : List ℕ → Type 0
+Rising [] = Unit
+Rising (k ∷ l) = All (λ (n : ℕ). k ≤ n) l × Rising l
 
 -- whom a call serves: a send who waits to receive, a receive who waits to send
 abbrev pub servedIn : QueueCall → Option Side
@@ -99,9 +108,9 @@ HandsFirst capacity m h = handed m ≡ map wordOf (hands capacity m h)
 abbrev pub DropsOne : ℕ → Made QueueCall → List (Made QueueCall) → Type 0
 DropsOne capacity m h = length (drops capacity m h) ≡ findsFull capacity (buffered capacity h) m
 
--- ---- demand 3, of the calls h (the newest first) as a queue saw them: the table gave it as x, and they left it with this buffer and these senders.
--- Its order is request T-05's; with which call a word enters or passes is said by `enters` (Sends)
-pub record Carried (domain : ℕ → ℤ) (x : Queue) (h : List (Made QueueCall)) (buffer : List ℕ) (senders : List Waiter) : Type 0 where
+-- ---- demand 3, of the calls h (the newest first) as a queue saw them: the table gave it as x and each task its domain and priority, and they left it with this
+-- buffer and these senders, first to last. Its order is request T-05's; with which call a word enters or passes is said by `enters` (Sends)
+pub record Carried (domain : ℕ → ℤ) (priority : ℕ → ℕ) (x : Queue) (h : List (Made QueueCall)) (buffer : List ℕ) (senders : List Waiter) : Type 0 where
   -- "words in the buffer and handed or dropped out stand in the order in which they entered the buffer or passed straight to a receiver":
   -- all that left and then the buffer; and what each answer hands out, of those present at its call
   pub ordered : gathered (leaves (x .capacity)) h ++ buffer ≡ map wordOf (entered h)
@@ -113,11 +122,13 @@ pub record Carried (domain : ℕ → ℤ) (x : Queue) (h : List (Made QueueCall)
       ≡ acceptedOf k h
   -- "Dropped are just the words that accepted forced sends found oldest in a full buffer, one for each such send"
   pub oneEach : Each (DropsOne (x .capacity)) h
-  -- "Sends not forced still enter or pass in call order", and those that wait come behind
-  pub inCallOrder : Ascending (keep unforced (entered h ++ waitingSends h))
+  -- "Sends not forced still enter or pass in call order", and those that wait come behind: in each line
+  pub inCallOrder : (k : ℕ) → Ascending (keep (λ (y : Sent). eqb k (lineOf priority x (y .task))) (keep unforced (entered h ++ waitingSends h)))
   -- every accepted send came from a domain admitted when it called
   pub sendersAllowed : Each (SentAllowed domain (x .vector)) h
   -- every word handed out went to a receiver whose domain was admitted when it called
   pub takersAllowed : Each (TakenAllowed domain (x .vector)) h
-  -- the waiting senders are exactly the tasks whose send answered "waiting" and whose release no later answer shows, each with that send's word
-  pub sendersAre : map senderOf senders ≡ map senderIn (waitingSends h)
+  -- the waiting senders are exactly the tasks whose send answered "waiting" and whose release no later answer shows, each with that send's word:
+  -- in each line in call order, a more urgent line before a less urgent one
+  pub sendersAre : (k : ℕ) → keep (λ (y : Sender). eqb k (lineOf priority x (y .task))) (map senderOf senders) ≡ keep (λ (y : Sender). eqb k (lineOf priority x (y .task))) (map senderIn (waitingSends h))
+  pub inLines : Rising (map (λ (e : Waiter). lineOf priority x (e .task)) senders)

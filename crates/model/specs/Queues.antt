@@ -1,4 +1,4 @@
--- Data queues: their calls, their entries and what each call on one does (document 01; forced send: request T-05). Definitions only.
+-- Data queues: their calls, their entries and what each call on one does (document 01; forced send: request T-05; priority order: request T-10). Definitions only.
 use mathlib.Core.Bool.{Bool, true, false}
 use mathlib.Core.List.{List, [], _∷_, _++_}
 use mathlib.Core.Option.{Option, none, some}
@@ -17,9 +17,9 @@ pub use Rattle.model.specs.declared.dtq.QueueCall.the-variants.{Send as 
 use Rattle.model.specs.declared.dtq.QueueRequest.{QueueRequest}
 use Rattle.model.specs.declared.dtq.QueueRequest.the-variants as Request
 use Rattle.model.specs.Lists.{at, put}
-use Rattle.model.specs.State.{Vector, Queue, Waiter, Place, receiving, sending, place, waiter, noQueue, setWaits, setQueues}
+use Rattle.model.specs.State.{Vector, TaskEntry, Queue, Waiter, Place, receiving, sending, place, waiter, noQueue, setWaits, setQueues}
 use Rattle.model.specs.Answers.{Effect, Info, whenOk, whenAccepted}
-use Rattle.model.specs.Waits.{Patience, waitersIn, firstTask, refusal, wakes, orWaits, gives}
+use Rattle.model.specs.Waits.{Patience, waitersIn, isOrder, byPriority, standing, firstTask, refusal, wakes, orWaits, gives}
 use Rattle.model.specs.Acts.{Act, own, refer, setVector, Slots, clear}
 use Rattle.model.specs.Rooms.{Room}
 
@@ -54,9 +54,9 @@ actOf Request.Refer = refer
 actOf (Request.SetVector v) = setVector v
 
 -- ---- the entry
--- 4. queue attributes other than 0: E_RSATR
+-- 4. queue attributes other than 0 and 1 (priority order): E_RSATR
 abbrev pub attributeOk : ℕ → Bool
-attributeOk a = eqb a 0
+attributeOk a = isOrder a
 
 -- 5. queue capacity 0 to its limit
 abbrev pub numbersOk : ℕ → Bool
@@ -85,6 +85,10 @@ setBuffer xs q b = put xs q (record { domain = queueIn xs q .domain; attribute =
 abbrev pub hasRoom : Queue → Bool
 hasRoom q = ltb (length (q .buffer)) (q .capacity)
 
+-- the wait queue of a queue's senders; its receivers stand as they came
+abbrev pub sendersOf : List TaskEntry → List Waiter → List Queue → ℕ → List Waiter
+sendersOf ts ws xs q = standing (byPriority (queueIn xs q .attribute)) ts (waitersIn ws (place sending q))
+
 -- ---- the calls, once the checks are passed
 -- send: with a waiting receiver, the first gets the word and is released; otherwise, with room, the word goes last into the buffer;
 -- otherwise poll-send gives E_TMOUT and send waits with its word, last
@@ -104,8 +108,8 @@ receiveBy ws xs t q p (x ∷ b) (e ∷ l) = wakes ws (setBuffer xs q (b ++ (e .w
 receiveBy ws xs t q p [] (e ∷ l) = wakes ws xs e (e .word) 0
 receiveBy ws xs t q p [] [] = orWaits ws xs p (waiter t receiving q 0)
 
-abbrev pub onReceive : List Waiter → List Queue → ℕ → ℕ → Patience → Effect Queue
-onReceive ws xs t q p = receiveBy ws xs t q p (queueIn xs q .buffer) (waitersIn ws (place sending q))
+abbrev pub onReceive : List TaskEntry → List Waiter → List Queue → ℕ → ℕ → Patience → Effect Queue
+onReceive ts ws xs t q p = receiveBy ws xs t q p (queueIn xs q .buffer) (sendersOf ts ws xs q)
 
 -- forced send: on capacity 0 it is E_ILUSE, even with a waiting receiver; with a waiting receiver and with room it is as a send;
 -- into a full buffer: the oldest word is dropped and its own goes last
@@ -118,14 +122,14 @@ forceBy ws xs q w false [] false = gives ws (setBuffer xs q (drop 1 (queueIn xs 
 abbrev pub onForce : List Waiter → List Queue → ℕ → ℕ → Effect Queue
 onForce ws xs q w = forceBy ws xs q w (eqb (queueIn xs q .capacity) 0) (waitersIn ws (place receiving q)) (hasRoom (queueIn xs q))
 
-abbrev pub does : List Waiter → List Queue → ℕ → ℕ → QueueCall → Effect Queue
-does ws xs t q (send p w) = onSend ws xs t q w p
-does ws xs t q (receive p) = onReceive ws xs t q p
-does ws xs t q (forcedSend w) = onForce ws xs q w
+abbrev pub does : List TaskEntry → List Waiter → List Queue → ℕ → ℕ → QueueCall → Effect Queue
+does ts ws xs t q (send p w) = onSend ws xs t q w p
+does ts ws xs t q (receive p) = onReceive ts ws xs t q p
+does ts ws xs t q (forcedSend w) = onForce ws xs q w
 
 -- refer: first waiting sender, first waiting receiver, number of buffered words, vector
-abbrev pub told : List Waiter → List Queue → ℕ → Info
-told ws xs q = record { first = firstTask (waitersIn ws (place sending q)); second = firstTask (waitersIn ws (place receiving q)); amount = length (queueIn xs q .buffer); vector = queueIn xs q .vector }
+abbrev pub told : List TaskEntry → List Waiter → List Queue → ℕ → Info
+told ts ws xs q = record { first = firstTask (sendersOf ts ws xs q); second = firstTask (waitersIn ws (place receiving q)); amount = length (queueIn xs q .buffer); vector = queueIn xs q .vector }
 
 abbrev pub withVector : Queue → Vector → Queue
 withVector x v = record { domain = x .domain; attribute = x .attribute; capacity = x .capacity; buffer = x .buffer; vector = v }

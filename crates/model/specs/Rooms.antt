@@ -11,7 +11,7 @@ use Rattle.access.specs.Vectors.{patternOf}
 use Rattle.access.specs.declared.vector.Operation.{Operation}
 use Rattle.itron.specs.Codes.{Err, Code, eCtx, eId, ePar, eNoexs, eOacv}
 use Rattle.model.specs.Lists.{at, put}
-use Rattle.model.specs.State.{Vector, Place, Waiter, State, domainAt, no}
+use Rattle.model.specs.State.{Vector, TaskEntry, Place, Waiter, State, domainAt, no}
 use Rattle.model.specs.Answers.{Info, Effect, effect, Out, out, tells, refuseIf}
 use Rattle.model.specs.Waits.{absent, gives}
 use Rattle.model.specs.Acts.{Act, own, refer, setVector, ofOwn, operationOf, isRefer, Slots, clear}
@@ -26,12 +26,12 @@ pub record Room (C R : Type 0) : Type 0 where
   pub nothing : R
   pub vector : R → Vector
   pub withVector : R → Vector → R
-  -- which operation an own call is; what it must meet besides the checks of every call; what it does, by task t on the object n
+  -- which operation an own call is; what it must meet besides the checks of every call; what it does, by task t on the object n, the table's tasks being given
   pub operation : C → Operation
   pub slots : List Waiter → List R → ℕ → C → Slots
-  pub does : List Waiter → List R → ℕ → ℕ → C → Effect R
+  pub does : List TaskEntry → List Waiter → List R → ℕ → ℕ → C → Effect R
   -- what a refer tells of the object n
-  pub told : List Waiter → List R → ℕ → Info
+  pub told : List TaskEntry → List Waiter → List R → ℕ → Info
   -- the wait that an own call of task t begins, if it answers "waiting"; the place to whose waiting tasks it is, with its answer, an
   -- accepted call of the opposite kind
   pub begins : ℕ → ℕ → C → List Waiter
@@ -40,7 +40,7 @@ pub record Room (C R : Type 0) : Type 0 where
 -- ---- the checks of every call
 -- a registered ready task
 abbrev pub ready : State → ℕ → Bool
-ready s t = not (eqb t 0) && leb t (length (s .fixed .domains)) && absent t (s .waits)
+ready s t = not (eqb t 0) && leb t (length (s .fixed .tasks)) && absent t (s .waits)
 
 -- a number from 1 to the limit of its kind
 abbrev pub inRange : ℕ → ℕ → Bool
@@ -76,10 +76,10 @@ module _ {C R : Type 0} (r : Room C R) where
   setVectorOf xs n v = put xs n (r .withVector (at (r .nothing) xs n) v)
 
   -- a refer tells, and changes nothing
-  abbrev pub actOn : List Waiter → List R → ℕ → ℕ → Act C → Effect R
-  actOn ws xs t n (own c) = r .does ws xs t n c
-  actOn ws xs t n refer = effect (tells (r .told ws xs n)) ws xs
-  actOn ws xs t n (setVector v) = gives ws (setVectorOf xs n v) 0
+  abbrev pub actOn : List TaskEntry → List Waiter → List R → ℕ → ℕ → Act C → Effect R
+  actOn ts ws xs t n (own c) = r .does ts ws xs t n c
+  actOn ts ws xs t n refer = effect (tells (r .told ts ws xs n)) ws xs
+  actOn ts ws xs t n (setVector v) = gives ws (setVectorOf xs n v) 0
 
   -- what an effect gives, in the state
   abbrev pub onRecords : State → Effect R → Out
@@ -102,9 +102,9 @@ abbrev pub onObject : {C R : Type 0} → Room C R → ℤ → Act C → Asks
 onObject r n a =
     record {
       check = λ s t. check r s t (no n) a;
-      act = λ s t. onRecords r s (actOn r (s .waits) (r .records s) t (no n) a);
+      act = λ s t. onRecords r s (actOn r (s .fixed .tasks) (s .waits) (r .records s) t (no n) a);
       isRefer = isRefer a;
-      told = λ s. r .told (s .waits) (r .records s) (no n);
+      told = λ s. r .told (s .fixed .tasks) (s .waits) (r .records s) (no n);
       begins = λ t. ofOwn [] (r .begins t (no n)) a;
       serves = λ k. ofOwn none (λ c. r .serves (no n) c k) a;
     }

@@ -19,6 +19,11 @@ pub record Queue : Type 0 where
   pub buffer : List ℕ
   pub vector : Vector
 
+-- a task, as its entry gave it
+pub record TaskEntry : Type 0 where
+  pub domain : ℤ
+  pub priority : ℕ
+
 -- a memory region
 pub record Region : Type 0 where
   pub domain : ℤ
@@ -38,12 +43,12 @@ pub record Waiter : Type 0 where
   pub place : Place
   pub word : ℕ
 
--- what no call changes: whether the table is closed, the number n of user domains, the protection unit, each task's domain, the regions
+-- what no call changes: whether the table is closed, the number n of user domains, the protection unit, the tasks, the regions
 pub record Fixed : Type 0 where
   pub closed : Bool
   pub count : ℕ
   pub unit : ℕ
-  pub domains : List ℤ
+  pub tasks : List TaskEntry
   pub regions : List Region
 
 -- the state; `waits` has all waiting tasks in the order in which they began to wait, and a task that is not there is ready
@@ -71,16 +76,16 @@ setQueues s xs = record { fixed = s .fixed; waits = s .waits; sems = s .sems; qu
 
 -- what is fixed, with another part
 abbrev pub setClosed : Fixed → Bool → Fixed
-setClosed f b = record { closed = b; count = f .count; unit = f .unit; domains = f .domains; regions = f .regions }
+setClosed f b = record { closed = b; count = f .count; unit = f .unit; tasks = f .tasks; regions = f .regions }
 
 abbrev pub setUnit : Fixed → ℕ → Fixed
-setUnit f u = record { closed = f .closed; count = f .count; unit = u; domains = f .domains; regions = f .regions }
+setUnit f u = record { closed = f .closed; count = f .count; unit = u; tasks = f .tasks; regions = f .regions }
 
-abbrev pub setDomains : Fixed → List ℤ → Fixed
-setDomains f ds = record { closed = f .closed; count = f .count; unit = f .unit; domains = ds; regions = f .regions }
+abbrev pub setTasks : Fixed → List TaskEntry → Fixed
+setTasks f ts = record { closed = f .closed; count = f .count; unit = f .unit; tasks = ts; regions = f .regions }
 
 abbrev pub setRegions : Fixed → List Region → Fixed
-setRegions f rs = record { closed = f .closed; count = f .count; unit = f .unit; domains = f .domains; regions = rs }
+setRegions f rs = record { closed = f .closed; count = f .count; unit = f .unit; tasks = f .tasks; regions = rs }
 
 -- ---- objects by number; what has no such number is all zeros
 -- a number as it counts objects: what is not positive is 0, which numbers none
@@ -90,6 +95,9 @@ no (negsuc n) = zero
 
 abbrev pub zeroVector : Vector
 zeroVector = uniform 0
+
+abbrev pub noTask : TaskEntry
+noTask = record { domain = pos zero; priority = 0 }
 
 abbrev pub noSem : Sem
 noSem = record { domain = pos zero; attribute = 0; max = 0; count = 0; vector = zeroVector }
@@ -106,8 +114,14 @@ semAt s i = at noSem (s .sems) i
 abbrev pub queueAt : State → ℕ → Queue
 queueAt s q = at noQueue (s .queues) q
 
+abbrev pub taskAt : State → ℕ → TaskEntry
+taskAt s t = at noTask (s .fixed .tasks) t
+
 abbrev pub domainAt : State → ℕ → ℤ
-domainAt s t = at (pos zero) (s .fixed .domains) t
+domainAt s t = taskAt s t .domain
+
+abbrev pub priorityAt : State → ℕ → ℕ
+priorityAt s t = taskAt s t .priority
 
 -- ---- places
 abbrev pub place : Side → ℕ → Place

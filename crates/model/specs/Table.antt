@@ -8,8 +8,8 @@ use lib.Dec.{eqb, ltb, leb}
 use lib.IntN.{ℤ, pos, negsuc}
 use Rattle.access.specs.declared.vector.Choice.{Choice}
 use Rattle.itron.specs.Codes.{Err, eCtx, eId, eNoid, eRsatr, ePar, eObj, eNomem}
-use Rattle.itron.specs.Limits.{maxDomains, maxTasks, maxSemaphores, maxQueues, maxRegions, minUnit}
-use Rattle.model.specs.State.{State, stateWith, setFixed, setSems, setQueues, setClosed, setDomains, setRegions}
+use Rattle.itron.specs.Limits.{maxDomains, maxTasks, maxPriority, maxSemaphores, maxQueues, maxRegions, minUnit}
+use Rattle.model.specs.State.{TaskEntry, State, stateWith, setFixed, setSems, setQueues, setClosed, setTasks, setRegions}
 use Rattle.model.specs.Answers.{Out, refuse, done, refuseIf}
 use Rattle.model.specs.Semaphores as Semaphores
 use Rattle.model.specs.Queues as Queues
@@ -18,7 +18,7 @@ use Rattle.model.specs.Regions as Regions
 
 -- an entry of each kind, with its numbers as given, and the vector given or none
 pub data Entry : Type 0 where
-  task : (domain : ℤ) → Entry
+  task : (domain : ℤ) (priority : ℕ) → Entry
   sem : (domain : ℤ) (attribute start max : ℕ) → Choice → Entry
   queue : (domain : ℤ) (attribute capacity : ℕ) → Choice → Entry
   region : (domain : ℤ) (attribute base size : ℕ) → Choice → Entry
@@ -54,8 +54,12 @@ pub record Tests : Type 0 where
   -- 7. queue words above their limit in total: E_NOMEM
   pub memoryOk : Bool
 
+-- a priority from 1 to its limit
+abbrev pub priorityOk : ℕ → Bool
+priorityOk p = leb 1 p && leb p maxPriority
+
 abbrev pub testsOf : State → Entry → Tests
-testsOf s (task d) = record { hasRoom = ltb (length (s .fixed .domains)) maxTasks; domainOk = ownsTask (s .fixed .count) d; attributeOk = true; numbersOk = true; placeOk = true; memoryOk = true }
+testsOf s (task d p) = record { hasRoom = ltb (length (s .fixed .tasks)) maxTasks; domainOk = ownsTask (s .fixed .count) d; attributeOk = true; numbersOk = priorityOk p; placeOk = true; memoryOk = true }
 testsOf s (sem d a b m v) = record { hasRoom = ltb (length (s .sems)) maxSemaphores; domainOk = owns (s .fixed .count) d; attributeOk = Semaphores.attributeOk a; numbersOk = Semaphores.numbersOk b m; placeOk = true; memoryOk = true }
 testsOf s (queue d a c v) = record { hasRoom = ltb (length (s .queues)) maxQueues; domainOk = owns (s .fixed .count) d; attributeOk = Queues.attributeOk a; numbersOk = Queues.numbersOk c; placeOk = true; memoryOk = Queues.memoryOk (s .queues) c }
 testsOf s (region d a b z v) =
@@ -80,8 +84,11 @@ checkEntry s e =
     (refuseIf (not (testsOf s e .memoryOk)) eNomem none))))))
 
 -- ---- an entry is kept as given, last of its kind, the default vector resolved, and nothing else changes
+abbrev pub newTask : ℤ → ℕ → TaskEntry
+newTask d p = record { domain = d; priority = p }
+
 abbrev pub add : State → Entry → State
-add s (task d) = setFixed s (setDomains (s .fixed) (s .fixed .domains ++ (d ∷ [])))
+add s (task d p) = setFixed s (setTasks (s .fixed) (s .fixed .tasks ++ (newTask d p ∷ [])))
 add s (sem d a b m v) = setSems s (s .sems ++ (Semaphores.newSem d a b m v ∷ []))
 add s (queue d a c v) = setQueues s (s .queues ++ (Queues.newQueue d a c v ∷ []))
 add s (region d a b z v) = setFixed s (setRegions (s .fixed) (s .fixed .regions ++ (Regions.newRegion d a b z v ∷ [])))
@@ -96,7 +103,7 @@ enter s e = enterBy s e (checkEntry s e)
 
 -- ---- a fresh state takes n and a unit; n outside 0 to 32 or a bad unit is E_PAR and gives the empty open state for n = 0 and unit 1
 abbrev pub emptyState : ℕ → ℕ → State
-emptyState n unit = stateWith (record { closed = false; count = n; unit = unit; domains = []; regions = [] })
+emptyState n unit = stateWith (record { closed = false; count = n; unit = unit; tasks = []; regions = [] })
 
 abbrev pub freshBy : Bool → ℕ → ℕ → Out
 freshBy true n unit = done (emptyState n unit)

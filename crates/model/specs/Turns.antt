@@ -1,4 +1,5 @@
--- Taking turns (document 01): a task that waits with k tasks ahead is released by the (k+1)th accepted call of the opposite kind on its object after it joined.
+-- Taking turns (document 01): a task that waits with k tasks ahead is released by the (k+1)th accepted call of the opposite kind on its object after it joined,
+-- where those who wait stand as they came (request T-10).
 use mathlib.Core.Path.{_≡_}
 use mathlib.Core.Bool.{Bool, true, false}
 use mathlib.Core.List.{List, [], _∷_, _++_, map}
@@ -8,7 +9,7 @@ use lib.ListN.{length, drop}
 use Rattle.model.specs.Lists.{total}
 use Rattle.model.specs.State.{Place, Waiter, State, samePlace}
 use Rattle.model.specs.Answers.{Released}
-use Rattle.model.specs.Waits.{waitersAt}
+use Rattle.model.specs.Waits.{orderOf, waitersAt}
 use Rattle.model.specs.Calls.{Call, asks}
 use Rattle.model.specs.History.{Event, event, after, history}
 
@@ -26,6 +27,10 @@ serves p e = countAt p (asks (e .call .op) .serves (e .answer .code))
 
 abbrev pub tasksOf : List Released → List ℕ
 tasksOf rs = map (λ (r : Released). r .task) rs
+
+-- those who wait at p stand as they came
+abbrev pub FirstCome : State → Place → Type 0
+FirstCome s p = orderOf s (p .side) (p .number) ≡ false
 
 -- e waits at p in the state s with the tasks `ahead` before it
 pub record InTurn (s : State) (p : Place) (e : Waiter) (ahead : List Waiter) : Type 0 where

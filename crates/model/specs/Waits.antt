@@ -1,10 +1,10 @@
--- The waiting tasks (document 01, "Calls on an open gateway"). Definitions only.
-use mathlib.Core.Bool.{Bool, true, not, _&&_}
+-- The waiting tasks (document 01, "Calls on an open gateway"; priority order: request T-10). Definitions only.
+use mathlib.Core.Bool.{Bool, true, false, not, _&&_, _||_}
 use mathlib.Core.List.{List, [], _∷_, _++_}
 use Prim.Native.Nat.{ℕ}
 use lib.Dec.{eqb}
-use Rattle.model.specs.Lists.{keep}
-use Rattle.model.specs.State.{Place, Waiter, State, samePlace, place, receiving, sending}
+use Rattle.model.specs.Lists.{at, keep, arrange}
+use Rattle.model.specs.State.{TaskEntry, Place, Waiter, State, Side, onSem, receiving, sending, samePlace, place, noTask, semAt, queueAt}
 use Rattle.model.specs.Answers.{Released, Effect, effect, say}
 use Rattle.itron.specs.Codes.{Err, eTmout, ok, waiting, error}
 pub use Rattle.model.specs.declared.Patience.{Patience}
@@ -16,18 +16,40 @@ standsAt p e = samePlace p (e .place)
 abbrev pub isOther : ℕ → Waiter → Bool
 isOther t e = not (eqb t (e .task))
 
--- a wait queue: the tasks that wait at a place, first to last
+-- the tasks that wait at a place, in the order in which they began to
 abbrev pub waitersIn : List Waiter → Place → List Waiter
 waitersIn l p = keep (standsAt p) l
 
 abbrev pub waitersAt : State → Place → List Waiter
 waitersAt s p = waitersIn (s .waits) p
 
+-- ---- the attribute of an object at which tasks wait: 0, they stand as they came; 1, by priority
+abbrev pub isOrder : ℕ → Bool
+isOrder a = eqb a 0 || eqb a 1
+
+abbrev pub byPriority : ℕ → Bool
+byPriority a = eqb a 1
+
+-- of tasks in the order in which they came, the wait queue: by priority, the most urgent first and those of equal priority as they came, or all as they came
+abbrev pub standing : Bool → List TaskEntry → List Waiter → List Waiter
+standing true ts l = arrange (λ (e : Waiter). at noTask ts (e .task) .priority) l
+standing false ts l = l
+
+-- which of the two holds at a place; those who wait to receive stand as they came
+abbrev pub orderOf : State → Side → ℕ → Bool
+orderOf s onSem i = byPriority (semAt s i .attribute)
+orderOf s receiving q = false
+orderOf s sending q = byPriority (queueAt s q .attribute)
+
+-- a wait queue: the tasks that wait at a place, first to last
+abbrev pub waitQueue : State → Place → List Waiter
+waitQueue s p = standing (orderOf s (p .side) (p .number)) (s .fixed .tasks) (waitersAt s p)
+
 abbrev pub senders : State → ℕ → List Waiter
-senders s q = waitersAt s (place sending q)
+senders s q = waitQueue s (place sending q)
 
 abbrev pub receivers : State → ℕ → List Waiter
-receivers s q = waitersAt s (place receiving q)
+receivers s q = waitQueue s (place receiving q)
 
 abbrev pub firstTask : List Waiter → ℕ
 firstTask [] = 0
