@@ -4,6 +4,7 @@ pub mod Ordinals
 pub mod Targets
 pub mod Chains
 pub mod Units
+pub mod Order
 pub mod WaitQueues
 pub mod Fits
 pub mod Endings

@@ -43,14 +43,14 @@ There s op = no (named s op .number) ≤ named s op .registered
 -- ---- the vectors that entries gave to the objects of a kind, "given or default", in order
 abbrev pub semVectors : List Entry → List Vector
 semVectors [] = []
-semVectors (task d ∷ l) = semVectors l
+semVectors (task d p ∷ l) = semVectors l
 semVectors (sem d a b m v ∷ l) = resolved d v ∷ semVectors l
 semVectors (queue d a c v ∷ l) = semVectors l
 semVectors (region d a b z v ∷ l) = semVectors l
 
 abbrev pub queueVectors : List Entry → List Vector
 queueVectors [] = []
-queueVectors (task d ∷ l) = queueVectors l
+queueVectors (task d p ∷ l) = queueVectors l
 queueVectors (sem d a b m v ∷ l) = queueVectors l
 queueVectors (queue d a c v ∷ l) = resolved d v ∷ queueVectors l
 queueVectors (region d a b z v ∷ l) = queueVectors l
