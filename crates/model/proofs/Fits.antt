@@ -6,9 +6,8 @@ use Prim.Native.Nat.{ℕ, zero, suc, _+_, _≤_}
 use native.Mathlib.Omega.{arith}
 use lib.ListN.{length}
 use lib.Dec.{eqb}
-use lib.IntN.{ℤ}
 use Rattle.model.specs.Lists.{at, put, keep, consIf, All}
-use Rattle.model.specs.State.{Queue, Waiter, noQueue}
+use Rattle.model.specs.State.{TaskEntry, Queue, Waiter, noQueue}
 use Rattle.model.specs.Waits.{isOther, absent}
 use Rattle.model.specs.Queues.{wordsUsed}
 use Rattle.model.specs.Conditions.{WaitsFit, QueuesFit, Known, Plain, BufferFits}
@@ -46,26 +45,26 @@ used-put [] (suc n) x e = refl
 used-put (y ∷ l) (suc zero) x e = ap (λ (c : ℕ). c + wordsUsed l) e
 used-put (y ∷ l) (suc (suc n)) x e = ap (λ (c : ℕ). y .capacity + c) (used-put l (suc n) x e)
 
-module _ {ds : List ℤ} {ws : List Waiter} (f : WaitsFit ds ws) where
-  pub waits-leave : (t : ℕ) → WaitsFit ds (keep (isOther t) ws)
+module _ {ts : List TaskEntry} {ws : List Waiter} (f : WaitsFit ts ws) where
+  pub waits-leave : (t : ℕ) → WaitsFit ts (keep (isOther t) ws)
   waits-leave t = record {
     tasks = f .tasks;
     distinct = distinct-keep (isOther t) ws (f .distinct);
-    known = all-keep (Known (length ds)) (isOther t) ws (f .known);
+    known = all-keep (Known (length ts)) (isOther t) ws (f .known);
     plain = all-keep Plain (isOther t) ws (f .plain);
   }
 
-  pub waits-join : (e : Waiter) → absent (e .task) ws ≡ true → Known (length ds) e → Plain e → WaitsFit ds (ws ++ (e ∷ []))
+  pub waits-join : (e : Waiter) → absent (e .task) ws ≡ true → Known (length ts) e → Plain e → WaitsFit ts (ws ++ (e ∷ []))
   waits-join e a k p = record {
     tasks = f .tasks;
     distinct = distinct-snoc ws e (f .distinct) a;
-    known = all-snoc (Known (length ds)) ws e (f .known) k;
+    known = all-snoc (Known (length ts)) ws e (f .known) k;
     plain = all-snoc Plain ws e (f .plain) p;
   }
 
   -- no more tasks wait than there are
-  pub few : length ws ≤ length ds
-  few = no-more-than (length ds) ws (f .distinct) (f .known)
+  pub few : length ws ≤ length ts
+  few = no-more-than (length ts) ws (f .distinct) (f .known)
 
 module _ {qs : List Queue} (f : QueuesFit qs) where
   pub queues-put : (n : ℕ) (x : Queue) → x .capacity ≡ at noQueue qs n .capacity → BufferFits x → QueuesFit (put qs n x)

@@ -32,16 +32,16 @@ module _ {A : Type 0} (rank : A → ℕ) where
 
   some-insert : (P : A → Type 0) (x : A) (l : List A) → Some P (insert rank x l) → Some P (x ∷ l)
   some-insert P x [] h = h
-  some-insert P x (y ∷ l) h = go (leb (rank x) (rank y)) h
+  some-insert P x (y ∷ l) h = go (leb (rank x) (rank y)) (some-insert P x l) h
     where
       behind : Some P (x ∷ l) → Some P (x ∷ (y ∷ l))
       behind (inl z) = inl z
       behind (inr z) = inr (inr z)
 
-      go : (b : Bool) → Some P (cond b (x ∷ (y ∷ l)) (y ∷ insert rank x l)) → Some P (x ∷ (y ∷ l))
-      go true k = k
-      go false (inl z) = inr (inl z)
-      go false (inr z) = behind (some-insert P x l z)
+      go : (b : Bool) → (Some P (insert rank x l) → Some P (x ∷ l)) → Some P (cond b (x ∷ (y ∷ l)) (y ∷ insert rank x l)) → Some P (x ∷ (y ∷ l))
+      go true ih k = k
+      go false ih (inl z) = inr (inl z)
+      go false ih (inr z) = behind (ih z)
 
   length-insert : (x : A) (l : List A) → length (insert rank x l) ≡ suc (length l)
   length-insert x [] = refl
@@ -100,11 +100,11 @@ module _ {A : Type 0} (rank : A → ℕ) where
 
   some-arrange : (P : A → Type 0) (l : List A) → Some P (arrange rank l) → Some P l
   some-arrange P [] h = h
-  some-arrange P (x ∷ l) h = go (some-insert P x (arrange rank l) h)
+  some-arrange P (x ∷ l) h = go (some-arrange P l) (some-insert P x (arrange rank l) h)
     where
-      go : Some P (x ∷ arrange rank l) → Some P (x ∷ l)
-      go (inl z) = inl z
-      go (inr z) = inr (some-arrange P l z)
+      go : (Some P (arrange rank l) → Some P l) → Some P (x ∷ arrange rank l) → Some P (x ∷ l)
+      go ih (inl z) = inl z
+      go ih (inr z) = inr (ih z)
 
   length-arrange : (l : List A) → length (arrange rank l) ≡ length l
   length-arrange [] = refl
