@@ -6,18 +6,18 @@ use mathlib.Core.List.{List, [], _∷_, _++_}
 use Prim.Native.Nat.{ℕ, zero, suc, _+_, _^_, _≤_, _∣_}
 use lib.IntN.{ℤ, pos, negsuc}
 use lib.ListN.{length}
-use Rattle.itron.specs.Limits.{maxDomains, maxTasks, maxSemaphores, maxQueues, maxRegions, maxWords, maxCount, maxCapacity, addressEnd, maxUnitPower}
-use Rattle.model.specs.State.{Sem, Queue, Region, Waiter, Side, onSem, receiving, sending, State, place, waiter, semAt, queueAt}
-use Rattle.model.specs.Waits.{waitersAt, senders, receivers, isOther, absent}
+use Rattle.itron.specs.Limits.{maxDomains, maxTasks, maxPriority, maxSemaphores, maxQueues, maxRegions, maxWords, maxCount, maxCapacity, addressEnd, maxUnitPower}
+use Rattle.model.specs.State.{TaskEntry, Sem, Queue, Region, Waiter, Side, onSem, receiving, sending, State, place, waiter, semAt, queueAt}
+use Rattle.model.specs.Waits.{waitersAt, isOther, absent}
 use Rattle.model.specs.Queues.{wordsUsed}
-use Rattle.model.specs.Conditions.{Distinct, Known, WordFits, Plain, BufferFits, Bounded, Ascending, Whole, TaskOwner, Owner, SemEntryFits, QueueEntryFits, RegionEntryFits, sideCount, Registered, NoWords, Sound}
+use Rattle.model.specs.Conditions.{Distinct, Known, WordFits, Plain, BufferFits, Bounded, Ascending, Whole, TaskOwner, Owner, TaskEntryFits, SemEntryFits, QueueEntryFits, RegionEntryFits, sideCount, Registered, NoWords, Sound}
 use Rattle.model.proofs.Units.{unit-tells}
 use Rattle.model.proofs.Places.{all-each}
 use Rattle.model.proofs.Lists.{cons-ne, no-both, eqb-same, and-left, and-right}
 
 module _ (s : State) (k : Sound s) where
   -- ---- the sizes
-  pub sizes : (s .fixed .count ≤ maxDomains) × (length (s .fixed .domains) ≤ maxTasks) × (length (s .sems) ≤ maxSemaphores) × (length (s .queues) ≤ maxQueues) × (length (s .fixed .regions) ≤ maxRegions) × (wordsUsed (s .queues) ≤ maxWords)
+  pub sizes : (s .fixed .count ≤ maxDomains) × (length (s .fixed .tasks) ≤ maxTasks) × (length (s .sems) ≤ maxSemaphores) × (length (s .queues) ≤ maxQueues) × (length (s .fixed .regions) ≤ maxRegions) × (wordsUsed (s .queues) ≤ maxWords)
   sizes = (k .entries .domains, k .fit .waits .tasks, k .fit .sems, k .fit .queues .few, k .fit .regions .few, k .fit .queues .words)
 
   -- ---- semaphores: the count is at most max, and 0 where somebody waits
@@ -32,24 +32,24 @@ module _ (s : State) (k : Sound s) where
       go (inr z) = z
 
   -- ---- queues: who waits to receive finds nothing, who waits to send finds the buffer full
-  pub receiver-finds-none : (q : ℕ) (e : Waiter) (l : List Waiter) → receivers s q ≡ e ∷ l → (queueAt s q .buffer ≡ []) × (senders s q ≡ [])
+  pub receiver-finds-none : (q : ℕ) (e : Waiter) (l : List Waiter) → waitersAt s (place receiving q) ≡ e ∷ l → (queueAt s q .buffer ≡ []) × (waitersAt s (place sending q) ≡ [])
   receiver-finds-none q e l h = go (k .fine q .idle)
     where
-      go : (receivers s q ≡ []) ⊎ ((queueAt s q .buffer ≡ []) × (senders s q ≡ [])) → (queueAt s q .buffer ≡ []) × (senders s q ≡ [])
+      go : (waitersAt s (place receiving q) ≡ []) ⊎ ((queueAt s q .buffer ≡ []) × (waitersAt s (place sending q) ≡ [])) → (queueAt s q .buffer ≡ []) × (waitersAt s (place sending q) ≡ [])
       go (inl z) = absurd (cons-ne h z)
       go (inr z) = z
 
-  pub sender-finds-full : (q : ℕ) (e : Waiter) (l : List Waiter) → senders s q ≡ e ∷ l → queueAt s q .capacity ≤ length (queueAt s q .buffer)
+  pub sender-finds-full : (q : ℕ) (e : Waiter) (l : List Waiter) → waitersAt s (place sending q) ≡ e ∷ l → queueAt s q .capacity ≤ length (queueAt s q .buffer)
   sender-finds-full q e l h = go (k .fine q .full)
     where
-      go : (senders s q ≡ []) ⊎ (queueAt s q .capacity ≤ length (queueAt s q .buffer)) → queueAt s q .capacity ≤ length (queueAt s q .buffer)
+      go : (waitersAt s (place sending q) ≡ []) ⊎ (queueAt s q .capacity ≤ length (queueAt s q .buffer)) → queueAt s q .capacity ≤ length (queueAt s q .buffer)
       go (inl z) = absurd (cons-ne h z)
       go (inr z) = z
 
   -- ---- who waits: a registered task, at a registered object, and no task twice
-  pub waiter-registered : (a : List Waiter) (e : Waiter) (b : List Waiter) → s .waits ≡ a ++ e ∷ b → (e .task ≢ 0) × (e .task ≤ length (s .fixed .domains)) × (e .place .number ≢ 0)
+  pub waiter-registered : (a : List Waiter) (e : Waiter) (b : List Waiter) → s .waits ≡ a ++ e ∷ b → (e .task ≢ 0) × (e .task ≤ length (s .fixed .tasks)) × (e .place .number ≢ 0)
   waiter-registered a e b h =
-      let t = all-each (Known (length (s .fixed .domains))) (s .waits) a b e h (k .fit .waits .known) in
+      let t = all-each (Known (length (s .fixed .tasks))) (s .waits) a b e h (k .fit .waits .known) in
       (t .0, t .1, all-each Plain (s .waits) a b e h (k .fit .waits .plain) .0)
 
   pub place-registered : (a : List Waiter) (t n w : ℕ) (d : Side) (b : List Waiter) → s .waits ≡ a ++ waiter t d n w ∷ b
@@ -74,12 +74,12 @@ module _ (s : State) (k : Sound s) where
       first (y ∷ a) j = first a (j .1)
 
   -- ---- what was entered
-  -- a task's domain is the kernel's or one of 1 to n; -2 may own the rest
+  -- a task's domain is the kernel's or one of 1 to n; -2 may own the rest; a priority is 1 to its limit; an order is 0 or 1
   abbrev Owned : ℤ → Type 0
   Owned d = (d ≡ negsuc 0) ⊎ ((j : ℕ) × ((d ≡ pos (suc j)) × (suc j ≤ s .fixed .count)))
 
-  pub task-owned : (a : List ℤ) (d : ℤ) (b : List ℤ) → s .fixed .domains ≡ a ++ d ∷ b → Owned d
-  task-owned a d b h = go d (all-each (TaskOwner (s .fixed .count)) (s .fixed .domains) a b d h (k .entries .tasks))
+  pub task-entered : (a : List TaskEntry) (x : TaskEntry) (b : List TaskEntry) → s .fixed .tasks ≡ a ++ x ∷ b → Owned (x .domain) × (1 ≤ x .priority) × (x .priority ≤ maxPriority)
+  task-entered a x b h = let f = all-each (TaskEntryFits (s .fixed .count)) (s .fixed .tasks) a b x h (k .entries .tasks) in (go (x .domain) (f .0), f .1, f .2)
     where
       go : (d : ℤ) → TaskOwner (s .fixed .count) d → Owned d
       go (pos zero) o = absurd (o .0 refl)
@@ -94,10 +94,10 @@ module _ (s : State) (k : Sound s) where
   owner (negsuc (suc zero)) o = inl refl
   owner (negsuc (suc (suc j))) o = absurd o
 
-  pub semaphore-entered : (a : List Sem) (x : Sem) (b : List Sem) → s .sems ≡ a ++ x ∷ b → ((x .domain ≡ negsuc 1) ⊎ Owned (x .domain)) × (x .attribute ≡ 0) × (1 ≤ x .max) × (x .max ≤ maxCount)
+  pub semaphore-entered : (a : List Sem) (x : Sem) (b : List Sem) → s .sems ≡ a ++ x ∷ b → ((x .domain ≡ negsuc 1) ⊎ Owned (x .domain)) × ((x .attribute ≡ 0) ⊎ (x .attribute ≡ 1)) × (1 ≤ x .max) × (x .max ≤ maxCount)
   semaphore-entered a x b h = let f = all-each (SemEntryFits (s .fixed .count)) (s .sems) a b x h (k .entries .sems) in (owner (x .domain) (f .0), f .1, f .2, f .3)
 
-  pub queue-entered : (a : List Queue) (x : Queue) (b : List Queue) → s .queues ≡ a ++ x ∷ b → ((x .domain ≡ negsuc 1) ⊎ Owned (x .domain)) × (x .attribute ≡ 0) × (x .capacity ≤ maxCapacity) × (length (x .buffer) ≤ x .capacity)
+  pub queue-entered : (a : List Queue) (x : Queue) (b : List Queue) → s .queues ≡ a ++ x ∷ b → ((x .domain ≡ negsuc 1) ⊎ Owned (x .domain)) × ((x .attribute ≡ 0) ⊎ (x .attribute ≡ 1)) × (x .capacity ≤ maxCapacity) × (length (x .buffer) ≤ x .capacity)
   queue-entered a x b h = let f = all-each (QueueEntryFits (s .fixed .count)) (s .queues) a b x h (k .entries .queues) in (owner (x .domain) (f .0), f .1, f .2, all-each BufferFits (s .queues) a b x h (k .fit .queues .buffers))
 
   pub region-entered : (a : List Region) (x : Region) (b : List Region) → s .fixed .regions ≡ a ++ x ∷ b

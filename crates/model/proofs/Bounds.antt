@@ -2,6 +2,7 @@
 use Prim.Native.Nat.{ℕ, _≤_}
 use native.Mathlib.Omega.{arith}
 use mathlib.Core.Path.{_≡_, refl, sym, subst}
+use mathlib.Core.Bool.{Bool}
 use mathlib.Core.List.{List, [], _∷_}
 use lib.ListN.{length}
 use Rattle.itron.specs.Codes.{Code, ok, waiting, error}
@@ -9,11 +10,12 @@ use Rattle.itron.specs.Limits.{maxTasks}
 use Rattle.model.specs.Lists.{All}
 use Rattle.model.specs.State.{Waiter, Place, State}
 use Rattle.model.specs.Answers.{Answer, Out, releasedOf, say, tells}
-use Rattle.model.specs.Waits.{waitersAt, firstTask, standsAt, freed}
+use Rattle.model.specs.Waits.{standing, waitersAt, orderOf, waitQueue, firstTask, standsAt, freed}
 use Rattle.model.specs.Rooms.{Asks}
 use Rattle.model.specs.Calls.{Op, Call, asks, step}
 use Rattle.model.specs.Conditions.{Known, Fit}
 use Rattle.model.proofs.Lists.{all-keep}
+use Rattle.model.proofs.Order.{standing-all}
 use Rattle.model.proofs.Cover.{Endings, lawful, ends}
 
 -- the task numbers in an answer
@@ -27,15 +29,17 @@ first-small n [] h k = omega arith
 first-small n (e ∷ l) h k = let b = k .0 .1 in omega arith
 
 -- who waits at a place has a small number
-waiter-small : (s : State) → Fit s → (p : Place) → firstTask (waitersAt s p) ≤ maxTasks
-waiter-small s f p = first-small (length (s .fixed .domains)) (waitersAt s p) (f .waits .tasks) (all-keep (Known (length (s .fixed .domains))) (standsAt p) (s .waits) (f .waits .known))
+waiter-small : (s : State) → Fit s → (b : Bool) (p : Place) → firstTask (standing b (s .fixed .tasks) (waitersAt s p)) ≤ maxTasks
+waiter-small s f b p =
+    let n = length (s .fixed .tasks) in
+    first-small n (standing b (s .fixed .tasks) (waitersAt s p)) (f .waits .tasks) (standing-all b (s .fixed .tasks) (Known n) (waitersAt s p) (all-keep (Known n) (standsAt p) (s .waits) (f .waits .known)))
 
 -- an answer that releases nobody, and one that releases the first at a place
 quiet : (c : Code) (w : ℕ) → Small (say c w [])
 quiet c w = record { released = omega arith; first = omega arith; second = omega arith }
 
-wakes : (s : State) → Fit s → (p : Place) (e : Waiter) (l : List Waiter) → waitersAt s p ≡ e ∷ l → (w h : ℕ) → Small (say ok w (freed e h))
-wakes s f p e l q w h = record { released = subst (λ (x : List Waiter). firstTask x ≤ maxTasks) q (waiter-small s f p); first = omega arith; second = omega arith }
+wakes : (s : State) → Fit s → (p : Place) (e : Waiter) (l : List Waiter) → waitQueue s p ≡ e ∷ l → (w h : ℕ) → Small (say ok w (freed e h))
+wakes s f p e l q w h = record { released = subst (λ (x : List Waiter). firstTask x ≤ maxTasks) q (waiter-small s f (orderOf s (p .side) (p .number)) p); first = omega arith; second = omega arith }
 
 small-ends : (s : State) → Fit s → (op : Op) → Endings s (λ (t : ℕ) (x : Asks) (o : Out). x ≡ asks op → Small (o .answer))
 small-ends s f op = record {

@@ -1,4 +1,5 @@
--- What request T-05's order says of sends that are not forced; document 01's order follows from it, where no accepted send is forced and none is withdrawn. Assumes nothing.
+-- What request T-05's order says of sends that are not forced, in each line of a queue; document 01's order follows from it, for a first-come queue where no accepted send is
+-- forced and none is withdrawn. Assumes nothing.
 use mathlib.Core.Path.{_≡_, refl, sym, ap, _∙_}
 use mathlib.Core.Bool.{Bool, true, false, cond, not, _||_}
 use mathlib.Core.List.{List, [], _∷_, _++_, map, append-assoc, head-eq-of-cons-eq, tail-eq-of-cons-eq}
@@ -15,10 +16,10 @@ use Rattle.model.specs.State.{Queue, Waiter, State, queueAt}
 use Rattle.model.specs.Answers.{whenOk, whenWaiting, whenAccepted}
 use Rattle.model.specs.Acts.{Act, own, refer, setVector}
 use Rattle.model.specs.Queues.{QueueCall, send, receive, forcedSend}
-use Rattle.model.specs.Waits.{senders}
+use Rattle.model.specs.Waits.{byPriority, senders}
 use Rattle.model.specs.History.{History, Made, ofAsked}
 use Rattle.model.specs.Sends.{Sent, sendIn, sendOf, wordOf, unforced, times, Before, Ascending, accepts, accepted, shown, notShown, waitingSends, freedBy, withdrawn, entersIn, enters, entered, handed, fullIn, findsFull, buffered, leaves}
-use Rattle.model.specs.QueueClaims.{byQueue, Sender, wordsIn, Carried}
+use Rattle.model.specs.QueueClaims.{byQueue, Sender, senderOf, senderIn, wordsIn, lineOf, Carried}
 use Rattle.model.specs.Demand3.{Demand3}
 use Rattle.model.proofs.Lists.{no-both, cons-ne, eq-of, eqb-same, eqb-no, map-append, all-keep, all-append, all-parts, all-weaker}
 use Rattle.model.proofs.Sends.{Of, send-of, accepted-ascends, ascending-keep, accepted-once, entered-placed, times-append, words-of, words-in}
@@ -133,51 +134,75 @@ same-sends h [] (y ∷ m) f g e = absurd (cons-ne refl (sym e))
 same-sends h (x ∷ l) [] f g e = absurd (cons-ne refl e)
 same-sends h (x ∷ l) (y ∷ m) f g e = λ i. head-eq-of-cons-eq (sym (f .0 .1) ∙ ap (λ (k : ℕ). sendAt k h) (head-eq-of-cons-eq e) ∙ g .0 .1) i ∷ same-sends h l m (f .1) (g .1) (tail-eq-of-cons-eq e) i
 
--- ---- those that are not forced
-abbrev forcedAt : ℕ → List (Made QueueCall) → Bool
-forcedAt k h = anyOf (λ (x : Sent). x .forced) (sendAt k h)
-
-known-forced : (h : List (Made QueueCall)) (x : Sent) → Known h x → x .forced ≡ forcedAt (x .call) h
-known-forced h x f = or-false (x .forced) ∙ ap (anyOf (λ (y : Sent). y .forced)) (sym (f .1))
-  where
-    or-false : (b : Bool) → b ≡ b || false
-    or-false true = refl
-    or-false false = refl
-
--- of a call they are all of it or none
-unforced-times : (h : List (Made QueueCall)) (k : ℕ) (l : List Sent) → All (Known h) l → times k (keep unforced l) ≡ cond (forcedAt k h) 0 (times k l)
-unforced-times h k [] f = go (forcedAt k h)
+-- ---- those that pass a test: of a call they are all of it or none
+kept-times : (p : Sent → Bool) (h : List (Made QueueCall)) (k : ℕ) (l : List Sent) → All (Known h) l → times k (keep p l) ≡ cond (anyOf p (sendAt k h)) (times k l) 0
+kept-times p h k [] f = go (anyOf p (sendAt k h))
   where
     go : (b : Bool) → 0 ≡ cond {A = ℕ} b 0 0
     go true = refl
     go false = refl
-unforced-times h k (x ∷ l) f = go (eqb k (x .call)) refl (x .forced) (known-forced h x (f .0)) (forcedAt k h) refl (unforced-times h k l (f .1))
+kept-times p h k (x ∷ l) f = go (eqb k (x .call)) refl (p x) (known (p x) refl) (anyOf p (sendAt k h)) refl (kept-times p h k l (f .1))
   where
-    -- it is the first, is of call k or not, and forced or not
-    counted : (b : Bool) → eqb k (x .call) ≡ b → length (consIf (eqb k (x .call)) x (keep (λ (u : Sent). eqb k (u .call)) (keep unforced l))) ≡ length (consIf b x (keep (λ (u : Sent). eqb k (u .call)) (keep unforced l)))
-    counted b e = ap (λ (c : Bool). length (consIf c x (keep (λ (u : Sent). eqb k (u .call)) (keep unforced l)))) e
+    known : (b : Bool) → p x ≡ b → b ≡ anyOf p (sendAt (x .call) h)
+    known b e = or-false b ∙ ap (λ (c : Bool). c || false) (sym e) ∙ ap (anyOf p) (sym (f .0 .1))
+      where
+        or-false : (b : Bool) → b ≡ b || false
+        or-false true = refl
+        or-false false = refl
 
-    go : (b : Bool) → eqb k (x .call) ≡ b → (y : Bool) → y ≡ forcedAt (x .call) h → (z : Bool) → forcedAt k h ≡ z → times k (keep unforced l) ≡ cond z 0 (times k l)
-        → length (keep (λ (u : Sent). eqb k (u .call)) (consIf (not y) x (keep unforced l))) ≡ cond z 0 (length (consIf b x (keep (λ (u : Sent). eqb k (u .call)) l)))
-    go true e true j true i r = r
-    go true e true j false i r = absurd (no-both (sym (j ∙ ap (λ (n : ℕ). forcedAt n h) (sym (eq-of k (x .call) e)))) i)
-    go true e false j true i r = absurd (no-both i (sym (j ∙ ap (λ (n : ℕ). forcedAt n h) (sym (eq-of k (x .call) e)))))
-    go true e false j false i r = counted true e ∙ ap suc r
-    go false e true j true i r = r
-    go false e true j false i r = r
-    go false e false j true i r = counted false e ∙ r
-    go false e false j false i r = counted false e ∙ r
+    -- it is the first, is of call k or not, and passes or not
+    counted : (b : Bool) → eqb k (x .call) ≡ b → length (consIf (eqb k (x .call)) x (keep (λ (u : Sent). eqb k (u .call)) (keep p l))) ≡ length (consIf b x (keep (λ (u : Sent). eqb k (u .call)) (keep p l)))
+    counted b e = ap (λ (c : Bool). length (consIf c x (keep (λ (u : Sent). eqb k (u .call)) (keep p l)))) e
 
-module _ {domain : ℕ → ℤ} {x : Queue} {h : List (Made QueueCall)} {buffer : List ℕ} {senders : List Waiter} (d : Carried domain x h buffer senders) (z : withdrawn h ≡ []) where
+    go : (b : Bool) → eqb k (x .call) ≡ b → (y : Bool) → y ≡ anyOf p (sendAt (x .call) h) → (z : Bool) → anyOf p (sendAt k h) ≡ z → times k (keep p l) ≡ cond z (times k l) 0
+        → length (keep (λ (u : Sent). eqb k (u .call)) (consIf y x (keep p l))) ≡ cond z (length (consIf b x (keep (λ (u : Sent). eqb k (u .call)) l))) 0
+    go true e true j true i r = counted true e ∙ ap suc r
+    go true e true j false i r = absurd (no-both (sym (j ∙ ap (λ (n : ℕ). anyOf p (sendAt n h)) (sym (eq-of k (x .call) e)))) i)
+    go true e false j true i r = absurd (no-both i (sym (j ∙ ap (λ (n : ℕ). anyOf p (sendAt n h)) (sym (eq-of k (x .call) e)))))
+    go true e false j false i r = r
+    go false e true j true i r = counted false e ∙ r
+    go false e true j false i r = counted false e ∙ r
+    go false e false j true i r = r
+    go false e false j false i r = r
+
+module _ {domain : ℕ → ℤ} {priority : ℕ → ℕ} {x : Queue} {h : List (Made QueueCall)} {buffer : List ℕ} {senders : List Waiter} (d : Carried domain priority x h buffer senders) (z : withdrawn h ≡ []) where
   -- every accepted send entered or waits, each call's once
   placed-once : (k : ℕ) → times k (placed h) ≡ times k (accepted h)
   placed-once k = omega (arith, times-append k (entered h) (waitingSends h), entered-placed (x .capacity) k h, d .placed k, ap (times k) z, accepted-once k h)
 
-  -- "Sends not forced still enter or pass in call order", and those that wait come behind: all of them, in the order of their calls
-  pub unforced-order : keep unforced (entered h ++ waitingSends h) ≡ keep unforced (accepted h)
-  unforced-order = same-sends h (keep unforced (placed h)) (keep unforced (accepted h)) (all-keep (Known h) unforced (placed h) (placed-known h)) (all-keep (Known h) unforced (accepted h) (accepted-known h))
-      (same-calls (keep unforced (placed h)) (keep unforced (accepted h)) (d .inCallOrder) (ascending-keep unforced (accepted h) (accepted-ascends h))
-      (λ k. unforced-times h k (placed h) (placed-known h) ∙ ap (λ (n : ℕ). cond (forcedAt k h) 0 n) (placed-once k) ∙ sym (unforced-times h k (accepted h) (accepted-known h))))
+  -- "Sends not forced still enter or pass in call order", and those that wait come behind: in each line all of them, in the order of their calls
+  abbrev row : ℕ → List Sent → List Sent
+  row n l = keep (λ (y : Sent). eqb n (lineOf priority x (y .task))) (keep unforced l)
+
+  row-known : (n : ℕ) (l : List Sent) → All (Known h) l → All (Known h) (row n l)
+  row-known n l f = all-keep (Known h) (λ (y : Sent). eqb n (lineOf priority x (y .task))) (keep unforced l) (all-keep (Known h) unforced l f)
+
+  row-times : (n k : ℕ) (l : List Sent) → All (Known h) l
+      → times k (row n l) ≡ cond (anyOf (λ (y : Sent). eqb n (lineOf priority x (y .task))) (sendAt k h)) (cond (anyOf unforced (sendAt k h)) (times k l) 0) 0
+  row-times n k l f =
+      kept-times (λ (y : Sent). eqb n (lineOf priority x (y .task))) h k (keep unforced l) (all-keep (Known h) unforced l f)
+      ∙ ap (λ (i : ℕ). cond (anyOf (λ (y : Sent). eqb n (lineOf priority x (y .task))) (sendAt k h)) i 0) (kept-times unforced h k l f)
+
+  pub line-order : (n : ℕ) → keep (λ (y : Sent). eqb n (lineOf priority x (y .task))) (keep unforced (entered h ++ waitingSends h)) ≡ keep (λ (y : Sent). eqb n (lineOf priority x (y .task))) (keep unforced (accepted h))
+  line-order n = same-sends h (row n (placed h)) (row n (accepted h)) (row-known n (placed h) (placed-known h)) (row-known n (accepted h) (accepted-known h))
+      (same-calls (row n (placed h)) (row n (accepted h)) (d .inCallOrder n)
+      (ascending-keep (λ (y : Sent). eqb n (lineOf priority x (y .task))) (keep unforced (accepted h)) (ascending-keep unforced (accepted h) (accepted-ascends h)))
+      (λ k. row-times n k (placed h) (placed-known h)
+      ∙ ap (λ (i : ℕ). cond (anyOf (λ (y : Sent). eqb n (lineOf priority x (y .task))) (sendAt k h)) (cond (anyOf unforced (sendAt k h)) i 0) 0) (placed-once k)
+      ∙ sym (row-times n k (accepted h) (accepted-known h))))
+
+  -- ---- in a first-come queue, where all stand in one line
+  module _ (one : byPriority (x .attribute) ≡ false) where
+    -- the one line has them all
+    whole : {A : Type 0} (f : A → ℕ) (l : List A) → keep (λ (y : A). eqb 0 (lineOf priority x (f y))) l ≡ l
+    whole {A} f [] = refl
+    whole {A} f (y ∷ l) = ap (λ (b : Bool). consIf (eqb 0 (cond b (priority (f y)) 0)) y (keep (λ (y : A). eqb 0 (lineOf priority x (f y))) l)) one ∙ ap (λ (m : List A). y ∷ m) (whole f l)
+
+    pub unforced-order : keep unforced (entered h ++ waitingSends h) ≡ keep unforced (accepted h)
+    unforced-order = sym (whole (λ (y : Sent). y .task) (keep unforced (placed h))) ∙ line-order 0 ∙ whole (λ (y : Sent). y .task) (keep unforced (accepted h))
+
+    pub senders-in-order : map senderOf senders ≡ map senderIn (waitingSends h)
+    senders-in-order = sym (whole (λ (y : Sender). y .task) (map senderOf senders)) ∙ d .sendersAre 0 ∙ whole (λ (y : Sender). y .task) (map senderIn (waitingSends h))
 
 -- ---- no accepted send is forced
 abbrev Unforced : List Sent → Type 0
@@ -237,22 +262,22 @@ leaves-handed c (m ∷ h) f =
     let n = none-full c (buffered c h) m h (k .1) in
     λ i. leaves-handed c h (k .0) i ++ (map wordOf (take (n i) (buffered c h)) ++ handed m)
 
--- ---- "the words handed out, then those buffered (oldest first), then those of the waiting senders (first to last), are the words of the accepted sends in call order"
-pub call-order : {domain : ℕ → ℤ} {x : Queue} {h : List (Made QueueCall)} {buffer : List ℕ} {senders : List Waiter} → Carried domain x h buffer senders → Unforced (accepted h) → withdrawn h ≡ []
-    → words handed h ++ (buffer ++ wordsIn senders) ≡ map wordOf (accepted h)
-call-order {x} {h} {buffer} {senders} d f z =
+-- ---- of a first-come queue, "the words handed out, then those buffered (oldest first), then those of the waiting senders (first to last), are the words of the accepted sends in call order"
+pub call-order : {domain : ℕ → ℤ} {priority : ℕ → ℕ} {x : Queue} {h : List (Made QueueCall)} {buffer : List ℕ} {senders : List Waiter} → Carried domain priority x h buffer senders
+    → byPriority (x .attribute) ≡ false → Unforced (accepted h) → withdrawn h ≡ [] → words handed h ++ (buffer ++ wordsIn senders) ≡ map wordOf (accepted h)
+call-order {x} {h} {buffer} {senders} d one f z =
     sym (append-assoc (words handed h) buffer (wordsIn senders))
     ∙ (λ i. (sym (leaves-handed (x .capacity) h f) i ++ buffer) ++ waits i)
     ∙ ap (λ (l : List ℕ). l ++ map wordOf (waitingSends h)) (d .ordered)
     ∙ sym (map-append wordOf (entered h) (waitingSends h))
-    ∙ ap (map wordOf) (sym (all-unforced (placed h) plain) ∙ unforced-order d z ∙ all-unforced (accepted h) f)
+    ∙ ap (map wordOf) (sym (all-unforced (placed h) plain) ∙ unforced-order d z one ∙ all-unforced (accepted h) f)
   where
     waits : wordsIn senders ≡ map wordOf (waitingSends h)
-    waits = words-of senders ∙ ap (map (λ (y : Sender). y .word)) (d .sendersAre) ∙ sym (words-in (waitingSends h))
+    waits = words-of senders ∙ ap (map (λ (y : Sender). y .word)) (senders-in-order d z one) ∙ sym (words-in (waitingSends h))
 
     plain : Unforced (placed h)
     plain = let k = entered-too (λ (y : Sent). y .forced ≡ false) h f in all-append (λ (y : Sent). y .forced ≡ false) (entered h) (waitingSends h) (k .0) (k .1)
 
-pub conserved : {s₀ s : State} {h : History} → Demand3 s₀ h s → (q : ℕ) → All (λ (m : Made QueueCall). NotForced (m .asked)) (byQueue q h)
+pub conserved : {s₀ s : State} {h : History} → Demand3 s₀ h s → (q : ℕ) → byPriority (queueAt s₀ q .attribute) ≡ false → All (λ (m : Made QueueCall). NotForced (m .asked)) (byQueue q h)
     → words handed (byQueue q h) ++ (queueAt s q .buffer ++ wordsIn (senders s q)) ≡ map wordOf (accepted (byQueue q h))
-conserved {h} d q f = call-order (d .queues q) (not-forced (byQueue q h) f) refl
+conserved {h} d q one f = call-order (d .queues q) one (not-forced (byQueue q h) f) refl

@@ -11,7 +11,7 @@ use Rattle.itron.specs.Codes.{Err, eCtx, eOacv, ok, waiting, error}
 use Rattle.model.specs.Lists.{at, All}
 use Rattle.model.specs.State.{Vector, Place, Waiter, State, setWaits, no}
 use Rattle.model.specs.Answers.{Answer, Effect, Out, out, say, refuse, tells}
-use Rattle.model.specs.Waits.{waitersAt, firstTask, leave, join, freed}
+use Rattle.model.specs.Waits.{standing, waitersAt, waitQueue, firstTask, leave, join, freed}
 use Rattle.model.specs.Acts.{Act, own, refer, setVector, isRefer}
 use Rattle.model.specs.Rooms.{Room, check, actOn, onRecords, setVectorOf, Asks, onObject}
 use Rattle.model.specs.Calls.{Op, onSemaphore, onQueue, Call, asks, actIf, step}
@@ -35,7 +35,7 @@ pub record Endings (s : State) (P : ℕ → Asks → Out → Type 0) : Type 0 wh
   pub refused : (t : ℕ) (x : Asks) (e : Err) → x .serves (error e) ≡ none → P t x (refuse s e)
   pub tells : (t : ℕ) (x : Asks) → x .isRefer ≡ true → x .serves ok ≡ none → P t x (out (tells (x .told s)) s)
   pub gives : (t : ℕ) (x : Asks) (s′ : State) (w : ℕ) → Alike s (s .waits) s′ → Vacant (s .waits) (x .serves ok) → P t x (out (say ok w []) s′)
-  pub wakes : (t : ℕ) (x : Asks) (s′ : State) (p : Place) (e : Waiter) (l : List Waiter) (w h : ℕ) → Alike s (leave (e .task) (s .waits)) s′ → x .serves ok ≡ some p → waitersAt s p ≡ e ∷ l
+  pub wakes : (t : ℕ) (x : Asks) (s′ : State) (p : Place) (e : Waiter) (l : List Waiter) (w h : ℕ) → Alike s (leave (e .task) (s .waits)) s′ → x .serves ok ≡ some p → waitQueue s p ≡ e ∷ l
       → P t x (out (say ok w (freed e h)) s′)
   pub waits : (t : ℕ) (x : Asks) (e : Waiter) → x .check s t ≡ none → Calls s t → e .task ≡ t → Plain e × Registered s e → x .begins t ≡ e ∷ [] → Vacant (s .waits) (x .serves waiting)
       → P t x (out (say waiting 0 []) (setWaits s (join e (s .waits))))
@@ -50,8 +50,8 @@ pub record Lawful (x : Asks) : Type 1 where
   pub unserved : (e : Err) → x .serves (error e) ≡ none
   -- a refer tells, of tasks that wait, and changes nothing
   pub refers : (s : State) (t : ℕ) → x .isRefer ≡ true → x .act s t ≡ out (tells (x .told s)) s
-  pub tells-first : (s : State) (m : ℕ) → ((p : Place) → firstTask (waitersAt s p) ≤ m) → x .told s .first ≤ m
-  pub tells-second : (s : State) (m : ℕ) → ((p : Place) → firstTask (waitersAt s p) ≤ m) → x .told s .second ≤ m
+  pub tells-first : (s : State) (m : ℕ) → ((b : Bool) (p : Place) → firstTask (standing b (s .fixed .tasks) (waitersAt s p)) ≤ m) → x .told s .first ≤ m
+  pub tells-second : (s : State) (m : ℕ) → ((b : Bool) (p : Place) → firstTask (standing b (s .fixed .tasks) (waitersAt s p)) ≤ m) → x .told s .second ≤ m
 
 -- a call on an object of a room
 module _ {C R : Type 0} {r : Room C R} (l : RoomLaws r) (n : ℤ) where
@@ -63,19 +63,20 @@ module _ {C R : Type 0} {r : Room C R} (l : RoomLaws r) (n : ℤ) where
     in-room ws xs = record { fixed = l .fixed-with s ws xs; waits = l .waits-with s ws xs }
 
     end-own : (c : C) → check r s t (no n) (own c) ≡ none → {o : Effect R}
-        → Ends R (s .waits) (r .records s) t (isAt (l .tag) (no n)) (SameBut (r .nothing) (l .entry) (no n) (r .records s)) (r .begins t (no n) c) (r .serves (no n) c) o
+        → Ends R (s .fixed .tasks) (s .waits) (r .records s) t (isAt (l .tag) (no n)) (l .order (r .records s)) (SameBut (r .nothing) (l .entry) (no n) (r .records s)) (r .begins t (no n) c) (r .serves (no n) c) o
         → P t (onObject r n (own c)) (onRecords r s o)
     end-own c h (Ended.refused e x) =
         subst (λ (s′ : State). P t (onObject r n (own c)) (out (say (error e) 0 []) s′)) (sym (l .same-with s (s .waits))) (es .refused t (onObject r n (own c)) e (serves-none (own c) e))
     end-own c h (Ended.gives xs w k v) = es .gives t (onObject r n (own c)) _ w (in-room (s .waits) xs) v
-    end-own c h (Ended.wakes xs p e m w v k y z f) = es .wakes t (onObject r n (own c)) _ p e m w v (in-room (leave (e .task) (s .waits)) xs) z f
+    end-own c h (Ended.wakes xs p e m w v k y z f) = es .wakes t (onObject r n (own c)) _ p e m w v (in-room (leave (e .task) (s .waits)) xs) z
+        (subst (λ (b : Bool). standing b (s .fixed .tasks) (waitersAt s p) ≡ e ∷ m) (l .order-at s p (room-at (l .tag) (no n) p y)) f)
     end-own c h (Ended.waits e z m b v) =
         let p = passed r s t (no n) (own c) h in
         let g = subst (All (λ (y : Waiter). Plain y × Registered s y)) b (l .plain s t (no n) (p .numbered) (p .there) c) in
         subst (λ (s′ : State). P t (onObject r n (own c)) (out (say waiting 0 []) s′)) (sym (l .same-with s (join e (s .waits)))) (es .waits t (onObject r n (own c)) e h (p .calls) z (g .0) b v)
 
     end-room : (a : Act C) → check r s t (no n) a ≡ none → P t (onObject r n a) (onObject r n a .act s t)
-    end-room (own c) h = end-own c h (l .ends (s .waits) (r .records s) t (no n) c)
+    end-room (own c) h = end-own c h (l .ends (s .fixed .tasks) (s .waits) (r .records s) t (no n) c)
     end-room refer h = subst (λ (s′ : State). P t (onObject r n refer) (out (tells (onObject r n refer .told s)) s′)) (sym (l .same-with s (s .waits))) (es .tells t (onObject r n refer) refl refl)
     end-room (setVector v) h = es .gives t (onObject r n (setVector v)) _ 0 (in-room (s .waits) (setVectorOf r (r .records s) (no n) v)) tt
 
@@ -90,12 +91,12 @@ module _ {C R : Type 0} {r : Room C R} (l : RoomLaws r) (n : ℤ) where
   pub lawful-room : (a : Act C) → Lawful (onObject r n a)
   lawful-room a = record {
     ends = λ s P es t h. end-room s P es t a h;
-    undenied = λ s t q. act-not-denied l (s .waits) (r .records s) t (no n) a q;
+    undenied = λ s t q. act-not-denied l (s .fixed .tasks) (s .waits) (r .records s) t (no n) a q;
     closed-first = λ s t h. opened-first s t a h;
     unserved = serves-none a;
     refers = λ s t h. refers-room s t a h;
-    tells-first = λ s m h. l .told-first (s .waits) (r .records s) (no n) m h;
-    tells-second = λ s m h. l .told-second (s .waits) (r .records s) (no n) m h;
+    tells-first = λ s m h. l .told-first (s .fixed .tasks) (s .waits) (r .records s) (no n) m h;
+    tells-second = λ s m h. l .told-second (s .fixed .tasks) (s .waits) (r .records s) (no n) m h;
   }
 
 pub lawful : (op : Op) → Lawful (asks op)
@@ -123,7 +124,7 @@ pub record Sees {C R : Type 0} (r : Room C R) (l : RoomLaws r) (s : State) (i : 
   pub elsewhere : (t : ℕ) (a : Answer) (s′ : State) → at (r .nothing) (r .records s′) i ≡ at (r .nothing) (r .records s) i
       → (Distinct (s .waits) → (p : Place) → isAt (l .tag) i p ≡ true → waitersAt s′ p ≡ waitersAt s p) → P (record { caller = t; asked = none; answer = a }) s′
   pub here : (t : ℕ) (a : Act C) → Passed r s t i a
-      → P (record { caller = t; asked = some a; answer = actOn r (s .waits) (r .records s) t i a .answer }) (onRecords r s (actOn r (s .waits) (r .records s) t i a) .state)
+      → P (record { caller = t; asked = some a; answer = actOn r (s .fixed .tasks) (s .waits) (r .records s) t i a .answer }) (onRecords r s (actOn r (s .fixed .tasks) (s .waits) (r .records s) t i a) .state)
 
 module _ {C R : Type 0} (r : Room C R) (l : RoomLaws r) (askedOf : ℕ → Op → Option (Act C)) (whose : (op : Op) → Whose r l askedOf op) (s : State) where
   module _ (i : ℕ) (P : Made C → State → Type 0) (cs : Sees r l s i P) (t : ℕ) where
@@ -135,15 +136,15 @@ module _ {C R : Type 0} (r : Room C R) (l : RoomLaws r) (askedOf : ℕ → Op �
     seen-here n a h = go (eqb i (no n)) refl
       where
         o : ℕ → Effect R
-        o j = actOn r (s .waits) (r .records s) t j a
+        o j = actOn r (s .fixed .tasks) (s .waits) (r .records s) t j a
 
         go : (b : Bool) → eqb i (no n) ≡ b → Seen (askedIf b a) (onObject r n a)
         go true e = subst (λ (j : ℕ). P (record { caller = t; asked = some a; answer = o j .answer }) (onRecords r s (o j) .state)) (eq-of i (no n) e)
             (cs .here t a (subst (λ (j : ℕ). Passed r s t j a) (sym (eq-of i (no n) e)) (passed r s t (no n) a h)))
         go false e =
             let z = ne-of i (no n) e in
-            cs .elsewhere t (o (no n) .answer) _ (ap (λ (xs : List R). at (r .nothing) xs i) (l .records-with s _ _) ∙ stays l (s .waits) (r .records s) t (no n) a .other i z)
-            (λ d p f. ap (λ (ws : List Waiter). waitersAt (setWaits s ws) p) (l .waits-with s _ _) ∙ waits-apart l (s .waits) (r .records s) t (no n) d a p (other-number (l .tag) (no n) i p f (λ q. z (sym q))))
+            cs .elsewhere t (o (no n) .answer) _ (ap (λ (xs : List R). at (r .nothing) xs i) (l .records-with s _ _) ∙ stays l (s .fixed .tasks) (s .waits) (r .records s) t (no n) a .other i z)
+            (λ d p f. ap (λ (ws : List Waiter). waitersAt (setWaits s ws) p) (l .waits-with s _ _) ∙ waits-apart l (s .fixed .tasks) (s .waits) (r .records s) t (no n) d a p (other-number (l .tag) (no n) i p f (λ q. z (sym q))))
 
     by-whose : (op : Op) → asks op .check s t ≡ none → Whose r l askedOf op → Seen (askedOf i op) (asks op)
     by-whose op h (mine n a e f) =
@@ -164,7 +165,7 @@ module _ {C R : Type 0} (r : Room C R) (l : RoomLaws r) (askedOf : ℕ → Op �
         go none h = by-whose i P cs (no (c .caller)) (c .op) h (whose (c .op))
 
   -- a claim about all records of the room
-  module _ (Q : List R → Type 0) (z : Q (r .records s)) (k : (t n : ℕ) (a : Act C) → Passed r s t n a → Q (actOn r (s .waits) (r .records s) t n a .records)) where
+  module _ (Q : List R → Type 0) (z : Q (r .records s)) (k : (t n : ℕ) (a : Act C) → Passed r s t n a → Q (actOn r (s .fixed .tasks) (s .waits) (r .records s) t n a .records)) where
     by-records : (t : ℕ) (op : Op) → asks op .check s t ≡ none → Whose r l askedOf op → Q (r .records (asks op .act s t .state))
     by-records t op h (mine n a e f) = subst (λ (x : Asks). Q (r .records (x .act s t .state))) (sym e) (subst Q (sym (l .records-with s _ _)) (k t (no n) a (passed r s t (no n) a (subst (λ (x : Asks). x .check s t ≡ none) e h))))
     by-records t op h (foreign g f) = subst Q (sym (g .records s t)) z
@@ -180,7 +181,7 @@ module _ {C R : Type 0} (r : Room C R) (l : RoomLaws r) (askedOf : ℕ → Op �
   -- ---- an entry is kept as given: no call changes what it gave of any object, or the number of objects
   pub entries-stay : (c : Call) → ((i : ℕ) → l .bare (at (r .nothing) (r .records (step s c .state)) i) ≡ l .bare (at (r .nothing) (r .records s) i)) × (length (r .records (step s c .state)) ≡ length (r .records s))
   entries-stay = keeps-records (λ (xs : List R). ((i : ℕ) → l .bare (at (r .nothing) xs i) ≡ l .bare (at (r .nothing) (r .records s) i)) × (length xs ≡ length (r .records s))) ((λ i. refl), refl)
-      (λ t n a p. let k = stays l (s .waits) (r .records s) t n a in (k .entries, k .count))
+      (λ t n a p. let k = stays l (s .fixed .tasks) (s .waits) (r .records s) t n a in (k .entries, k .count))
 
   -- so what holds of every object by its entry alone stays
   pub all-stay : (P : R → Type 0) → All (λ (x : R). P (l .bare x)) (r .records s) → (c : Call) → All (λ (x : R). P (l .bare x)) (r .records (step s c .state))
@@ -197,5 +198,5 @@ module _ {C R : Type 0} (r : Room C R) (l : RoomLaws r) (askedOf : ℕ → Op �
   vector-law i c = sees i (λ m s′. r .vector (at (r .nothing) (r .records s′) i) ≡ vectorBy (m .asked) (m .answer .code) (r .vector (at (r .nothing) (r .records s) i))) (record {
     refused = λ t a e. unset a e (r .vector (at (r .nothing) (r .records s) i));
     elsewhere = λ t a s′ e f. ap (r .vector) e;
-    here = λ t a p. ap (λ (xs : List R). r .vector (at (r .nothing) xs i)) (l .records-with s _ _) ∙ vectors l (s .waits) (r .records s) t i a (p .numbered) (p .there);
+    here = λ t a p. ap (λ (xs : List R). r .vector (at (r .nothing) xs i)) (l .records-with s _ _) ∙ vectors l (s .fixed .tasks) (s .waits) (r .records s) t i a (p .numbered) (p .there);
   }) c

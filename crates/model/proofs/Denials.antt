@@ -62,14 +62,14 @@ module _ {A B : Type 0} (f : A → B) where
 
 sems-append : (l m : List Entry) → semVectors (l ++ m) ≡ semVectors l ++ semVectors m
 sems-append [] m = refl
-sems-append (task d ∷ l) m = sems-append l m
+sems-append (task d p ∷ l) m = sems-append l m
 sems-append (sem d a b x v ∷ l) m = ap (λ (k : List Vector). resolved d v ∷ k) (sems-append l m)
 sems-append (queue d a c v ∷ l) m = sems-append l m
 sems-append (region d a b z v ∷ l) m = sems-append l m
 
 queues-append : (l m : List Entry) → queueVectors (l ++ m) ≡ queueVectors l ++ queueVectors m
 queues-append [] m = refl
-queues-append (task d ∷ l) m = queues-append l m
+queues-append (task d p ∷ l) m = queues-append l m
 queues-append (sem d a b x v ∷ l) m = queues-append l m
 queues-append (queue d a c v ∷ l) m = ap (λ (k : List Vector). resolved d v ∷ k) (queues-append l m)
 queues-append (region d a b z v ∷ l) m = queues-append l m
@@ -87,7 +87,7 @@ gave-enter l s i g = go i (checkEntry s i)
 
     go : (i : Entry) (o : Option Err) → Gave (l ++ whenOk [] (i ∷ []) (enterBy s i o .answer .code)) (enterBy s i o .state)
     go i (some e) = subst (λ (k : List Entry). Gave k s) (sym (append-nil l)) g
-    go (task d) none = same (task d) refl refl (add s (task d)) refl refl
+    go (task d p) none = same (task d p) refl refl (add s (task d p)) refl refl
     go (sem d a b m v) none = record {
       sems = map-snoc (λ (x : Sem). x .vector) (s .sems) (Semaphores.newSem d a b m v) ∙ ap (λ (k : List Vector). k ++ (resolved d v ∷ [])) (g .sems) ∙ sym (sems-append l (sem d a b m v ∷ []));
       queues = g .queues ∙ sym (append-nil (queueVectors l)) ∙ sym (queues-append l (sem d a b m v ∷ []));

@@ -1,19 +1,20 @@
 -- What a call that passes the checks answers and leaves (document 01, "Calls on an open gateway"; forced send: request T-05): the whole answer and the whole state, in terms of the
 -- lists themselves. The object stands behind those of l, so its number is one more than these are; the caller is task k. Assumes nothing.
-use mathlib.Core.Path.{_≡_, refl, sym, ap, _∙_}
+use mathlib.Core.Path.{_≡_, refl, sym, ap, _∙_, subst}
 use mathlib.Core.Logic.{_≢_}
 use mathlib.Core.Bool.{Bool, true, false, not}
 use mathlib.Core.List.{List, [], _∷_, _++_}
 use Prim.Native.Nat.{ℕ, suc, _≤_, _<_}
 use native.Mathlib.Omega.{arith}
 use lib.Dec.{eqb, leb, ltb}
+use borrow.Author.Tests.{leb-true, leb-false}
 use lib.IntN.{pos}
 use lib.ListN.{length, drop}
 use Rattle.itron.specs.Codes.{eIluse, ok, waiting}
 use Rattle.model.specs.Lists.{at, put, consIf, keep, All}
-use Rattle.model.specs.State.{Vector, Sem, Queue, onSem, receiving, sending, Place, Waiter, Fixed, State, noSem, noQueue, samePlace}
+use Rattle.model.specs.State.{Vector, TaskEntry, Sem, Queue, onSem, receiving, sending, Place, Waiter, Fixed, State, noSem, noQueue, samePlace}
 use Rattle.model.specs.Answers.{Answer, out}
-use Rattle.model.specs.Waits.{Patience, forever, waitersIn, standsAt, isOther, leave}
+use Rattle.model.specs.Waits.{Patience, forever, waitersIn, byPriority, standing, standsAt, isOther, leave}
 use Rattle.model.specs.Acts.{Act, own, setVector}
 use Rattle.model.specs.Rooms.{onRecords}
 use Rattle.model.specs.Semaphores as Semaphores
@@ -21,7 +22,8 @@ use Rattle.model.specs.Semaphores.{SemaphoreCall, signal, acquire, signa
 use Rattle.model.specs.Queues as Queues
 use Rattle.model.specs.Queues.{QueueCall, send, receive, forcedSend, sendBy, receiveBy, forceBy}
 use Rattle.model.specs.Calls.{Op, onSemaphore, onQueue, call, step}
-use Rattle.model.proofs.Lists.{no-both, eqb-same, keep-append, Distinct, keep-absent}
+use Rattle.model.proofs.Lists.{no-both, eqb-same, keep-append, all-append, all-weaker, Distinct, keep-absent}
+use Rattle.model.proofs.Order.{lineIn, standing-nobody, standing-heads}
 use Rattle.model.proofs.WaitQueues.{place-of, alike}
 use Rattle.model.proofs.Tests.{holds, fails, le-tells, lt-tells, eq-tells}
 use Rattle.model.proofs.Answers.{Passes, absent-tells, answers, refuses, with, does}
@@ -32,10 +34,12 @@ use Rattle.model.proofs.Places.{nth, all-each}
 abbrev pub Nobody : Place → List Waiter → Type 0
 Nobody p ws = All (λ (y : Waiter). y .place ≢ p) ws
 
--- e is the first who waits at a place, and waits once: others wait elsewhere before it, and others behind it
-pub record FirstAt (p : Place) (before behind : List Waiter) (e : Waiter) : Type 0 where
+-- e is the first who waits at a place, by the tasks ts: who came before it and waits there is less urgent, and who came behind it is not more urgent,
+-- where they stand by priority; where they stand as they came, all have one line, so nobody who waits there came before it. It waits once
+pub record FirstAt (b : Bool) (ts : List TaskEntry) (p : Place) (before behind : List Waiter) (e : Waiter) : Type 0 where
   pub there : e .place ≡ p
-  pub ahead : Nobody p before
+  pub ahead : All (λ (y : Waiter). y .place ≡ p → lineIn b ts e < lineIn b ts y) before
+  pub after : All (λ (y : Waiter). y .place ≡ p → lineIn b ts e ≤ lineIn b ts y) behind
   pub once : All (λ (y : Waiter). e .task ≢ y .task) (before ++ behind)
 
 nobody-found : (p : Place) (ws : List Waiter) → Nobody p ws → waitersIn ws p ≡ []
@@ -46,13 +50,23 @@ nobody-found p (y ∷ ws) h = go (standsAt p y) refl (nobody-found p ws (h .1))
     go true q i = absurd (h .0 (place-of p (y .place) q))
     go false q i = i
 
-first-found : (p : Place) (a b : List Waiter) (e : Waiter) → e .place ≡ p → Nobody p a → waitersIn (a ++ (e ∷ b)) p ≡ e ∷ waitersIn b p
-first-found p [] b e q h = ap (λ (c : Bool). consIf c e (waitersIn b p)) (ap (samePlace p) q ∙ alike p)
-first-found p (y ∷ a) b e q h = go (standsAt p y) refl (first-found p a b e q (h .1))
+-- those who wait at a place have what all have if they wait there
+at-place : (P : Waiter → Type 0) (p : Place) (ws : List Waiter) → All (λ (y : Waiter). y .place ≡ p → P y) ws → All P (waitersIn ws p)
+at-place P p [] h = tt
+at-place P p (y ∷ ws) h = go (standsAt p y) refl (at-place P p ws (h .1))
   where
-    go : (c : Bool) → standsAt p y ≡ c → waitersIn (a ++ (e ∷ b)) p ≡ e ∷ waitersIn b p → consIf c y (waitersIn (a ++ (e ∷ b)) p) ≡ e ∷ waitersIn b p
-    go true z i = absurd (h .0 (place-of p (y .place) z))
-    go false z i = i
+    go : (b : Bool) → standsAt p y ≡ b → All P (waitersIn ws p) → All P (consIf b y (waitersIn ws p))
+    go true q i = (h .0 (place-of p (y .place) q), i)
+    go false q i = i
+
+module _ (b : Bool) (ts : List TaskEntry) (p : Place) where
+  none-stands : (ws : List Waiter) → Nobody p ws → standing b ts (waitersIn ws p) ≡ []
+  none-stands ws h = ap (standing b ts) (nobody-found p ws h) ∙ standing-nobody b ts
+
+  first-found : (a c : List Waiter) (e : Waiter) → FirstAt b ts p a c e → (r : List Waiter) × (standing b ts (waitersIn (a ++ (e ∷ c)) p) ≡ e ∷ r)
+  first-found a c e h =
+      let i = standing-heads b ts (waitersIn a p) (waitersIn c p) e (at-place (λ (y : Waiter). lineIn b ts e < lineIn b ts y) p a (h .ahead)) (at-place (λ (y : Waiter). lineIn b ts e ≤ lineIn b ts y) p c (h .after)) in
+      (i .0, ap (standing b ts) (keep-append (standsAt p) a (e ∷ c) ∙ ap (λ (d : Bool). waitersIn a p ++ consIf d e (waitersIn c p)) (ap (samePlace p) (h .there) ∙ alike p)) ∙ i .1)
 
 others-left : (a b : List Waiter) (e : Waiter) → All (λ (y : Waiter). e .task ≢ y .task) (a ++ b) → leave (e .task) (a ++ (e ∷ b)) ≡ a ++ b
 others-left a b e h =
@@ -62,26 +76,46 @@ others-left a b e h =
     ∙ keep-absent (e .task) (a ++ b) (holds (absent-tells (e .task) (a ++ b)) h)
 
 -- there is no third case where each task waits once
-pub data Found (p : Place) (ws : List Waiter) : Type 0 where
-  nobody : Nobody p ws → Found p ws
-  first : (before behind : List Waiter) (e : Waiter) → ws ≡ before ++ (e ∷ behind) → FirstAt p before behind e → Found p ws
+pub data Found (b : Bool) (ts : List TaskEntry) (p : Place) (ws : List Waiter) : Type 0 where
+  nobody : Nobody p ws → Found b ts p ws
+  first : (before behind : List Waiter) (e : Waiter) → ws ≡ before ++ (e ∷ behind) → FirstAt b ts p before behind e → Found b ts p ws
 
-pub found : (p : Place) (ws : List Waiter) → Distinct ws → Found p ws
-found p [] d = nobody tt
-found p (y ∷ ws) d = go (standsAt p y) refl (found p ws (d .1))
-  where
-    others : All (λ (x : Waiter). y .task ≢ x .task) ws
-    others = absent-tells (y .task) ws .yes (d .0)
+module _ (b : Bool) (ts : List TaskEntry) (p : Place) where
+  -- who came before others and waits there is the first, if it is not less urgent than the first of them
+  newest-first : (y : Waiter) (ws : List Waiter) → y .place ≡ p → All (λ (x : Waiter). y .task ≢ x .task) ws → All (λ (x : Waiter). x .place ≡ p → lineIn b ts y ≤ lineIn b ts x) ws → Found b ts p (y ∷ ws)
+  newest-first y ws t o h = first [] ws y refl (record { there = t; ahead = tt; after = h; once = o })
 
-    elsewhere : standsAt p y ≡ false → y .place ≢ p
-    elsewhere h e = no-both (ap (samePlace p) e ∙ alike p) h
+  -- one who came before all of them is passed over
+  passed-over : (y : Waiter) (ws a c : List Waiter) (e : Waiter) → ws ≡ a ++ (e ∷ c) → (y .place ≡ p → lineIn b ts e < lineIn b ts y) → All (λ (x : Waiter). y .task ≢ x .task) ws → FirstAt b ts p a c e → Found b ts p (y ∷ ws)
+  passed-over y ws a c e q f o i =
+      first (y ∷ a) c e (ap (λ (l : List Waiter). y ∷ l) q)
+      (record { there = i .there; ahead = (f, i .ahead); after = i .after; once = ((λ z. all-each (λ (x : Waiter). y .task ≢ x .task) ws a c e q o (sym z)), i .once) })
 
-    go : (b : Bool) → standsAt p y ≡ b → Found p ws → Found p (y ∷ ws)
-    go true h i = first [] ws y refl (record { there = place-of p (y .place) h; ahead = tt; once = others })
-    go false h (nobody i) = nobody (elsewhere h, i)
-    go false h (first a b e q i) =
-        first (y ∷ a) b e (ap (λ (l : List Waiter). y ∷ l) q)
-        (record { there = i .there; ahead = (elsewhere h, i .ahead); once = ((λ z. all-each (λ (x : Waiter). y .task ≢ x .task) ws a b e q others (sym z)), i .once) })
+  pub found : (ws : List Waiter) → Distinct ws → Found b ts p ws
+  found [] d = nobody tt
+  found (y ∷ ws) d = go (standsAt p y) refl (found ws (d .1))
+    where
+      others : All (λ (x : Waiter). y .task ≢ x .task) ws
+      others = absent-tells (y .task) ws .yes (d .0)
+
+      elsewhere : standsAt p y ≡ false → y .place ≢ p
+      elsewhere h e = no-both (ap (samePlace p) e ∙ alike p) h
+
+      -- it waits there too: the two are compared
+      compared : (a c : List Waiter) (e : Waiter) → ws ≡ a ++ (e ∷ c) → FirstAt b ts p a c e → y .place ≡ p → (t : Bool) → leb (lineIn b ts y) (lineIn b ts e) ≡ t → Found b ts p (y ∷ ws)
+      compared a c e q i h true k =
+          let z = leb-true (lineIn b ts y) (lineIn b ts e) k in
+          newest-first y ws h others (subst (All (λ (x : Waiter). x .place ≡ p → lineIn b ts y ≤ lineIn b ts x)) (sym q)
+          (all-append (λ (x : Waiter). x .place ≡ p → lineIn b ts y ≤ lineIn b ts x) a (e ∷ c)
+          (all-weaker (λ (x : Waiter). x .place ≡ p → lineIn b ts e < lineIn b ts x) (λ (x : Waiter). x .place ≡ p → lineIn b ts y ≤ lineIn b ts x) (λ x f w. omega (arith, z, f w)) a (i .ahead))
+          ((λ w. z), all-weaker (λ (x : Waiter). x .place ≡ p → lineIn b ts e ≤ lineIn b ts x) (λ (x : Waiter). x .place ≡ p → lineIn b ts y ≤ lineIn b ts x) (λ x f w. omega (arith, z, f w)) c (i .after))))
+      compared a c e q i h false k = passed-over y ws a c e q (λ w. omega (arith, leb-false (lineIn b ts y) (lineIn b ts e) k)) others i
+
+      go : (t : Bool) → standsAt p y ≡ t → Found b ts p ws → Found b ts p (y ∷ ws)
+      go true h (nobody i) = newest-first y ws (place-of p (y .place) h) others (all-weaker (λ (x : Waiter). x .place ≢ p) (λ (x : Waiter). x .place ≡ p → lineIn b ts y ≤ lineIn b ts x) (λ x f w. absurd (f w)) ws i)
+      go true h (first a c e q i) = compared a c e q i (place-of p (y .place) h) (leb (lineIn b ts y) (lineIn b ts e)) refl
+      go false h (nobody i) = nobody (elsewhere h, i)
+      go false h (first a c e q i) = passed-over y ws a c e q (λ w. absurd (elsewhere h w)) others i
 
 -- ---- the object's record
 put-nth : {A : Type 0} (l m : List A) (x y : A) → put (l ++ (x ∷ m)) (suc (length l)) y ≡ l ++ (y ∷ m)
@@ -108,12 +142,19 @@ module _ (f : Fixed) (qs : List Queue) (k : ℕ) (l m : List Sem) where
   withCount y c = record { domain = y .domain; attribute = y .attribute; max = y .max; count = c; vector = y .vector }
 
   module _ (x : Sem) where
+    -- in which order those who wait for it stand
+    abbrev pub order : Bool
+    order = byPriority (x .attribute)
+
+    waitersAre : (ws : List Waiter) → Semaphores.waitersOf (f .tasks) ws (l ++ (x ∷ m)) (suc (length l)) ≡ standing order (f .tasks) (waitersIn ws atSem)
+    waitersAre ws = ap (λ (y : Sem). standing (byPriority (y .attribute)) (f .tasks) (waitersIn ws atSem)) (nth noSem x l m)
+
     -- "With waiters, the first is released with E_OK and the count stays"
-    pub signal-wakes : (a b : List Waiter) (e : Waiter) → FirstAt atSem a b e → Passes (semState (a ++ (e ∷ b)) x) (pos k) (askSem (own signal))
+    pub signal-wakes : (a b : List Waiter) (e : Waiter) → FirstAt order (f .tasks) atSem a b e → Passes (semState (a ++ (e ∷ b)) x) (pos k) (askSem (own signal))
         → step (semState (a ++ (e ∷ b)) x) (call (pos k) (askSem (own signal))) ≡ record { answer = answers ok 0 (with e 0); state = semState (a ++ b) x }
     signal-wakes a b e h p =
         let s = semState (a ++ (e ∷ b)) x in
-        let w = first-found atSem a b e (h .there) (h .ahead) in
+        let w = waitersAre (a ++ (e ∷ b)) ∙ first-found order (f .tasks) atSem a b e h .1 in
         does s (pos k) (askSem (own signal)) p
         ∙ (λ i. onRecords Semaphores.room s (signalBy (s .waits) (s .sems) (suc (length l)) (w i) (leb (at noSem (s .sems) (suc (length l)) .max) (at noSem (s .sems) (suc (length l)) .count))))
         ∙ ap (λ (ws : List Waiter). record { answer = answers ok 0 (with e 0); state = semState ws x }) (others-left a b e (h .once))
@@ -123,7 +164,7 @@ module _ (f : Fixed) (qs : List Queue) (k : ℕ) (l m : List Sem) where
         → step (semState ws x) (call (pos k) (askSem (own signal))) ≡ record { answer = answers ok 0 []; state = semState ws (withCount x (suc (x .count))) }
     signal-raises ws h r p =
         let s = semState ws x in
-        let w = nobody-found atSem ws h in
+        let w = waitersAre ws ∙ none-stands order (f .tasks) atSem ws h in
         let y = nth noSem x l m in
         let b = fails (le-tells (x .max) (x .count)) (λ z. omega arith) in
         does s (pos k) (askSem (own signal)) p
@@ -185,7 +226,7 @@ module _ (f : Fixed) (xs : List Sem) (k : ℕ) (l m : List Queue) where
     stored g ws a = ap (λ (ys : List Queue). out a (record { fixed = f; waits = ws; sems = xs; queues = ys })) (put-made noQueue (λ (y : Queue). withBuffer y (g y)) l m x)
 
     -- a receiver that gets the word leaves
-    received : (c b : List Waiter) (e : Waiter) → FirstAt toReceive c b e → (a : Answer) → out a (queueState (leave (e .task) (c ++ (e ∷ b))) x) ≡ out a (queueState (c ++ b) x)
+    received : (c b : List Waiter) (e : Waiter) → FirstAt false (f .tasks) toReceive c b e → (a : Answer) → out a (queueState (leave (e .task) (c ++ (e ∷ b))) x) ≡ out a (queueState (c ++ b) x)
     received c b e h a = ap (λ (ws : List Waiter). out a (queueState ws x)) (others-left c b e (h .once))
 
     module _ (a : Patience) (w : ℕ) where
@@ -199,9 +240,9 @@ module _ (f : Fixed) (xs : List Sem) (k : ℕ) (l m : List Queue) where
           ∙ ap (λ (b : Bool). onRecords Queues.room s (sendBy ws (s .queues) k (suc (length l)) w a c b)) r
 
       -- "With a waiting receiver, the first gets the word and is released"
-      pub send-hands : (c b : List Waiter) (e : Waiter) → FirstAt toReceive c b e → Passes (queueState (c ++ (e ∷ b)) x) (pos k) (askQueue (own (send a w)))
+      pub send-hands : (c b : List Waiter) (e : Waiter) → FirstAt false (f .tasks) toReceive c b e → Passes (queueState (c ++ (e ∷ b)) x) (pos k) (askQueue (own (send a w)))
           → step (queueState (c ++ (e ∷ b)) x) (call (pos k) (askQueue (own (send a w)))) ≡ record { answer = answers ok 0 (with e w); state = queueState (c ++ b) x }
-      send-hands c b e h p = send-by (c ++ (e ∷ b)) (e ∷ waitersIn b toReceive) _ (first-found toReceive c b e (h .there) (h .ahead)) refl p ∙ received c b e h (answers ok 0 (with e w))
+      send-hands c b e h p = send-by (c ++ (e ∷ b)) _ _ (first-found false (f .tasks) toReceive c b e h .1) refl p ∙ received c b e h (answers ok 0 (with e w))
 
       -- "Otherwise, with room, the word goes last into the buffer"
       pub send-buffers : (ws : List Waiter) → Nobody toReceive ws → length (x .buffer) < x .capacity → Passes (queueState ws x) (pos k) (askQueue (own (send a w)))
@@ -231,10 +272,10 @@ module _ (f : Fixed) (xs : List Sem) (k : ℕ) (l m : List Queue) where
       force-refused ws e p = force-by ws true _ _ (holds (eq-tells (x .capacity) 0) e) refl refl p
 
       -- "with a waiting receiver as before"
-      pub force-hands : (c b : List Waiter) (e : Waiter) → FirstAt toReceive c b e → x .capacity ≢ 0 → Passes (queueState (c ++ (e ∷ b)) x) (pos k) (askQueue (own (forcedSend w)))
+      pub force-hands : (c b : List Waiter) (e : Waiter) → FirstAt false (f .tasks) toReceive c b e → x .capacity ≢ 0 → Passes (queueState (c ++ (e ∷ b)) x) (pos k) (askQueue (own (forcedSend w)))
           → step (queueState (c ++ (e ∷ b)) x) (call (pos k) (askQueue (own (forcedSend w)))) ≡ record { answer = answers ok 0 (with e w); state = queueState (c ++ b) x }
       force-hands c b e h z p =
-          force-by (c ++ (e ∷ b)) false (e ∷ waitersIn b toReceive) _ (fails (eq-tells (x .capacity) 0) z) (first-found toReceive c b e (h .there) (h .ahead)) refl p ∙ received c b e h (answers ok 0 (with e w))
+          force-by (c ++ (e ∷ b)) false _ _ (fails (eq-tells (x .capacity) 0) z) (first-found false (f .tasks) toReceive c b e h .1) refl p ∙ received c b e h (answers ok 0 (with e w))
 
       -- "into room as before"
       pub force-buffers : (ws : List Waiter) → Nobody toReceive ws → length (x .buffer) < x .capacity → Passes (queueState ws x) (pos k) (askQueue (own (forcedSend w)))
@@ -251,25 +292,31 @@ module _ (f : Fixed) (xs : List Sem) (k : ℕ) (l m : List Queue) where
           ∙ stored (λ (y : Queue). drop 1 (y .buffer) ++ (w ∷ [])) ws (answers ok 0 [])
           ∙ ap (λ (y : List ℕ). out (answers ok 0 []) (queueState ws (withBuffer x (drop 1 y ++ (w ∷ []))))) e
 
+    -- in which order those who wait to send to it stand
+    abbrev pub ranked : Bool
+    ranked = byPriority (x .attribute)
+
     module _ (a : Patience) where
-      by-content : (ws : List Waiter) (b : List ℕ) (c : List Waiter) → x .buffer ≡ b → waitersIn ws toSend ≡ c → Passes (queueState ws x) (pos k) (askQueue (own (receive a)))
+      by-content : (ws : List Waiter) (b : List ℕ) (c : List Waiter) → x .buffer ≡ b → standing ranked (f .tasks) (waitersIn ws toSend) ≡ c → Passes (queueState ws x) (pos k) (askQueue (own (receive a)))
           → step (queueState ws x) (call (pos k) (askQueue (own (receive a)))) ≡ onRecords Queues.room (queueState ws x) (receiveBy ws (l ++ (x ∷ m)) k (suc (length l)) a b c)
       by-content ws b c h r p =
           let s = queueState ws x in
-          let y = ap (λ (q : Queue). q .buffer) (nth noQueue x l m) ∙ h in
-          does s (pos k) (askQueue (own (receive a))) p ∙ (λ j. onRecords Queues.room s (receiveBy ws (s .queues) k (suc (length l)) a (y j) (r j)))
+          let q = nth noQueue x l m in
+          let y = ap (λ (z : Queue). z .buffer) q ∙ h in
+          let w = ap (λ (z : Queue). standing (byPriority (z .attribute)) (f .tasks) (waitersIn ws toSend)) q ∙ r in
+          does s (pos k) (askQueue (own (receive a))) p ∙ (λ j. onRecords Queues.room s (receiveBy ws (s .queues) k (suc (length l)) a (y j) (w j)))
 
       -- "A buffered word: the oldest is handed out"
       pub receive-takes : (ws : List Waiter) (w : ℕ) (b : List ℕ) → x .buffer ≡ w ∷ b → Nobody toSend ws → Passes (queueState ws x) (pos k) (askQueue (own (receive a)))
           → step (queueState ws x) (call (pos k) (askQueue (own (receive a)))) ≡ record { answer = answers ok w []; state = queueState ws (withBuffer x b) }
-      receive-takes ws w b h r p = by-content ws (w ∷ b) [] h (nobody-found toSend ws r) p ∙ stored (λ (y : Queue). b) ws (answers ok w [])
+      receive-takes ws w b h r p = by-content ws (w ∷ b) [] h (none-stands ranked (f .tasks) toSend ws r) p ∙ stored (λ (y : Queue). b) ws (answers ok w [])
 
-      module _ (c d : List Waiter) (e : Waiter) (h : FirstAt toSend c d e) (p : Passes (queueState (c ++ (e ∷ d)) x) (pos k) (askQueue (own (receive a)))) where
+      module _ (c d : List Waiter) (e : Waiter) (h : FirstAt ranked (f .tasks) toSend c d e) (p : Passes (queueState (c ++ (e ∷ d)) x) (pos k) (askQueue (own (receive a)))) where
         -- "if a sender waits, the first sender's word moves to the buffer's end and it is released"
         pub receive-refills : (w : ℕ) (b : List ℕ) → x .buffer ≡ w ∷ b
             → step (queueState (c ++ (e ∷ d)) x) (call (pos k) (askQueue (own (receive a)))) ≡ record { answer = answers ok w (with e 0); state = queueState (c ++ d) (withBuffer x (b ++ (e .word ∷ []))) }
         receive-refills w b r =
-            by-content (c ++ (e ∷ d)) (w ∷ b) (e ∷ waitersIn d toSend) r (first-found toSend c d e (h .there) (h .ahead)) p
+            by-content (c ++ (e ∷ d)) (w ∷ b) _ r (first-found ranked (f .tasks) toSend c d e h .1) p
             ∙ stored (λ (y : Queue). b ++ (e .word ∷ [])) (leave (e .task) (c ++ (e ∷ d))) (answers ok w (with e 0))
             ∙ ap (λ (ws : List Waiter). record { answer = answers ok w (with e 0); state = queueState ws (withBuffer x (b ++ (e .word ∷ []))) }) (others-left c d e (h .once))
 
@@ -277,13 +324,13 @@ module _ (f : Fixed) (xs : List Sem) (k : ℕ) (l m : List Queue) where
         pub receive-passes : x .buffer ≡ []
             → step (queueState (c ++ (e ∷ d)) x) (call (pos k) (askQueue (own (receive a)))) ≡ record { answer = answers ok (e .word) (with e 0); state = queueState (c ++ d) x }
         receive-passes r =
-            by-content (c ++ (e ∷ d)) [] (e ∷ waitersIn d toSend) r (first-found toSend c d e (h .there) (h .ahead)) p
+            by-content (c ++ (e ∷ d)) [] _ r (first-found ranked (f .tasks) toSend c d e h .1) p
             ∙ ap (λ (ws : List Waiter). record { answer = answers ok (e .word) (with e 0); state = queueState ws x }) (others-left c d e (h .once))
 
     -- "receive waits, last"
     pub receive-joins : (ws : List Waiter) → x .buffer ≡ [] → Nobody toSend ws → Passes (queueState ws x) (pos k) (askQueue (own (receive forever)))
         → step (queueState ws x) (call (pos k) (askQueue (own (receive forever)))) ≡ record { answer = answers waiting 0 []; state = queueState (ws ++ (record { task = k; place = toReceive; word = 0 } ∷ [])) x }
-    receive-joins ws h r p = by-content forever ws [] [] h (nobody-found toSend ws r) p
+    receive-joins ws h r p = by-content forever ws [] [] h (none-stands ranked (f .tasks) toSend ws r) p
 
     -- "Set-vector. All four patterns are replaced. Tasks that already wait stay"
     pub queue-set : (ws : List Waiter) (v : Vector) → Passes (queueState ws x) (pos k) (askQueue (setVector v))

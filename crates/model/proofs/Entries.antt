@@ -12,13 +12,13 @@ use lib.IntN.{ℤ, pos, negsuc}
 use Rattle.access.specs.Vectors.{resolved}
 use Rattle.access.specs.declared.vector.Choice.{Choice}
 use Rattle.itron.specs.Codes.{Err, eCtx, eId, eNoid, eRsatr, ePar, eObj, eNomem, ok, error}
-use Rattle.itron.specs.Limits.{maxDomains, maxTasks, maxSemaphores, maxQueues, maxRegions, maxCount, maxCapacity, maxWords, addressEnd}
+use Rattle.itron.specs.Limits.{maxDomains, maxTasks, maxPriority, maxSemaphores, maxQueues, maxRegions, maxCount, maxCapacity, maxWords, addressEnd}
 use Rattle.model.specs.Lists.{at}
-use Rattle.model.specs.State.{Sem, Queue, Region, State, noSem, noQueue, noRegion}
+use Rattle.model.specs.State.{TaskEntry, Sem, Queue, Region, State, noTask, noSem, noQueue, noRegion}
 use Rattle.model.specs.Answers.{Out, refuseIf}
 use Rattle.model.specs.Queues.{wordsUsed}
 use Rattle.model.specs.Regions.{lastEnd, placeOk}
-use Rattle.model.specs.Conditions.{TaskOwner, Owner, RegionAttribute}
+use Rattle.model.specs.Conditions.{TaskOwner, Owner, OrderAttribute, RegionAttribute}
 use Rattle.model.specs.Units.{unitOk}
 use Rattle.model.specs.Table.{Entry, task, sem, queue, region, owns, ownsTask, Tests, testsOf, checkEntry, enterBy, enter, freshBy, fresh, closeBy, close}
 use Rattle.model.proofs.Tests.{Tells, holds, fails, le-tells, lt-tells, eq-tells, always-tells, never-tells, and-tells, or-tells, not-tells, passes-on, stops-at}
@@ -51,9 +51,9 @@ pub record Facts : Type 1 where
   pub memory : Type 0
 
 abbrev pub facts : State → Entry → Facts
-facts s (task d) = record { room = length (s .fixed .domains) < maxTasks; owned = TaskOwner (s .fixed .count) d; attribute = Unit; numbers = Unit; above = Unit; memory = Unit }
-facts s (sem d a b m v) = record { room = length (s .sems) < maxSemaphores; owned = Owner (s .fixed .count) d; attribute = a ≡ 0; numbers = Counts b m; above = Unit; memory = Unit }
-facts s (queue d a c v) = record { room = length (s .queues) < maxQueues; owned = Owner (s .fixed .count) d; attribute = a ≡ 0; numbers = c ≤ maxCapacity; above = Unit; memory = capacities (s .queues) + c ≤ maxWords }
+facts s (task d p) = record { room = length (s .fixed .tasks) < maxTasks; owned = TaskOwner (s .fixed .count) d; attribute = Unit; numbers = (1 ≤ p) × (p ≤ maxPriority); above = Unit; memory = Unit }
+facts s (sem d a b m v) = record { room = length (s .sems) < maxSemaphores; owned = Owner (s .fixed .count) d; attribute = OrderAttribute a; numbers = Counts b m; above = Unit; memory = Unit }
+facts s (queue d a c v) = record { room = length (s .queues) < maxQueues; owned = Owner (s .fixed .count) d; attribute = OrderAttribute a; numbers = c ≤ maxCapacity; above = Unit; memory = capacities (s .queues) + c ≤ maxWords }
 facts s (region d a b z v) =
     record { room = length (s .fixed .regions) < maxRegions; owned = Owner (s .fixed .count) d; attribute = RegionAttribute a; numbers = Area (s .fixed .unit) b z; above = Above (s .fixed .regions) b; memory = Unit }
 
@@ -98,12 +98,12 @@ pub record Told (t : Tests) (f : Facts) : Type 0 where
   pub memory : Tells (t .memoryOk) (f .memory)
 
 pub told : (s : State) (e : Entry) → Told (testsOf s e) (facts s e)
-told s (task d) = record { room = lt-tells _ maxTasks; owned = task-owner-tells (s .fixed .count) d; attribute = always-tells; numbers = always-tells; above = always-tells; memory = always-tells }
+told s (task d p) = record { room = lt-tells _ maxTasks; owned = task-owner-tells (s .fixed .count) d; attribute = always-tells; numbers = and-tells (le-tells 1 p) (le-tells p maxPriority); above = always-tells; memory = always-tells }
 told s (sem d a b m v) =
     record {
       room = lt-tells _ maxSemaphores;
       owned = owner-tells (s .fixed .count) d;
-      attribute = eq-tells a 0;
+      attribute = or-tells (eq-tells a 0) (eq-tells a 1);
       numbers = and-tells (and-tells (le-tells 1 m) (le-tells m maxCount)) (le-tells b m);
       above = always-tells;
       memory = always-tells;
@@ -112,7 +112,7 @@ told s (queue d a c v) =
     record {
       room = lt-tells _ maxQueues;
       owned = owner-tells (s .fixed .count) d;
-      attribute = eq-tells a 0;
+      attribute = or-tells (eq-tells a 0) (eq-tells a 1);
       numbers = le-tells c maxCapacity;
       above = always-tells;
       memory = rw (used-is (s .queues)) (le-tells (capacities (s .queues) + c) maxWords);
@@ -248,8 +248,8 @@ module _ {A : Type 0} where
   one-more d l x = record { last = snoc-last d l x; kept = snoc-kept d l x; more = length-append l (x ∷ []) ∙ add-one (length l) }
 
 -- "and nothing else changes"
-pub record TaskEntered (s s′ : State) (d : ℤ) : Type 0 where
-  pub tasks : OneMore (pos zero) (s .fixed .domains) (s′ .fixed .domains) d
+pub record TaskEntered (s s′ : State) (x : TaskEntry) : Type 0 where
+  pub tasks : OneMore noTask (s .fixed .tasks) (s′ .fixed .tasks) x
   pub closed : s′ .fixed .closed ≡ s .fixed .closed
   pub count : s′ .fixed .count ≡ s .fixed .count
   pub unit : s′ .fixed .unit ≡ s .fixed .unit
@@ -258,9 +258,9 @@ pub record TaskEntered (s s′ : State) (d : ℤ) : Type 0 where
   pub sems : s′ .sems ≡ s .sems
   pub queues : s′ .queues ≡ s .queues
 
-pub task-entered : (s : State) (d : ℤ) → Fits s (task d) → TaskEntered s (enter s (task d) .state) d
-task-entered s d f = subst (λ (o : Out). TaskEntered s (o .state) d) (sym (taken s (task d) f))
-    (record { tasks = one-more (pos zero) (s .fixed .domains) d; closed = refl; count = refl; unit = refl; regions = refl; waits = refl; sems = refl; queues = refl })
+pub task-entered : (s : State) (d : ℤ) (p : ℕ) → Fits s (task d p) → TaskEntered s (enter s (task d p) .state) (record { domain = d; priority = p })
+task-entered s d p f = subst (λ (o : Out). TaskEntered s (o .state) (record { domain = d; priority = p })) (sym (taken s (task d p) f))
+    (record { tasks = one-more noTask (s .fixed .tasks) _; closed = refl; count = refl; unit = refl; regions = refl; waits = refl; sems = refl; queues = refl })
 
 -- "semaphores at their start count"
 pub record SemEntered (s s′ : State) (x : Sem) : Type 0 where
@@ -291,7 +291,7 @@ pub record RegionEntered (s s′ : State) (x : Region) : Type 0 where
   pub closed : s′ .fixed .closed ≡ s .fixed .closed
   pub count : s′ .fixed .count ≡ s .fixed .count
   pub unit : s′ .fixed .unit ≡ s .fixed .unit
-  pub domains : s′ .fixed .domains ≡ s .fixed .domains
+  pub tasks : s′ .fixed .tasks ≡ s .fixed .tasks
   pub waits : s′ .waits ≡ s .waits
   pub sems : s′ .sems ≡ s .sems
   pub queues : s′ .queues ≡ s .queues
@@ -299,14 +299,14 @@ pub record RegionEntered (s s′ : State) (x : Region) : Type 0 where
 pub region-entered : (s : State) (d : ℤ) (a b z : ℕ) (v : Choice) → Fits s (region d a b z v)
     → RegionEntered s (enter s (region d a b z v) .state) (record { domain = d; attribute = a; base = b; size = z; vector = resolved d v })
 region-entered s d a b z v f = subst (λ (o : Out). RegionEntered s (o .state) (record { domain = d; attribute = a; base = b; size = z; vector = resolved d v })) (sym (taken s (region d a b z v) f))
-    (record { regions = one-more noRegion (s .fixed .regions) _; closed = refl; count = refl; unit = refl; domains = refl; waits = refl; sems = refl; queues = refl })
+    (record { regions = one-more noRegion (s .fixed .regions) _; closed = refl; count = refl; unit = refl; tasks = refl; waits = refl; sems = refl; queues = refl })
 
 -- ---- "closing only closes"
 pub record Closed (s s′ : State) : Type 0 where
   pub closed : s′ .fixed .closed ≡ true
   pub count : s′ .fixed .count ≡ s .fixed .count
   pub unit : s′ .fixed .unit ≡ s .fixed .unit
-  pub domains : s′ .fixed .domains ≡ s .fixed .domains
+  pub tasks : s′ .fixed .tasks ≡ s .fixed .tasks
   pub regions : s′ .fixed .regions ≡ s .fixed .regions
   pub waits : s′ .waits ≡ s .waits
   pub sems : s′ .sems ≡ s .sems
@@ -315,7 +315,7 @@ pub record Closed (s s′ : State) : Type 0 where
 pub close-only : (s : State) → s .fixed .closed ≡ false → (close s .answer .code ≡ ok) × Closed s (close s .state)
 unfolding close
 close-only s h = subst (λ (b : Bool). (closeBy b s .answer .code ≡ ok) × Closed s (closeBy b s .state)) (sym h)
-    (refl, record { closed = refl; count = refl; unit = refl; domains = refl; regions = refl; waits = refl; sems = refl; queues = refl })
+    (refl, record { closed = refl; count = refl; unit = refl; tasks = refl; regions = refl; waits = refl; sems = refl; queues = refl })
 
 -- "closing it again too: E_CTX"
 pub close-again : (s : State) → s .fixed .closed ≡ true → close s .answer .code ≡ error eCtx
@@ -327,7 +327,7 @@ pub record Empty (s : State) (n u : ℕ) : Type 0 where
   pub closed : s .fixed .closed ≡ false
   pub count : s .fixed .count ≡ n
   pub unit : s .fixed .unit ≡ u
-  pub domains : s .fixed .domains ≡ []
+  pub tasks : s .fixed .tasks ≡ []
   pub regions : s .fixed .regions ≡ []
   pub waits : s .waits ≡ []
   pub sems : s .sems ≡ []
@@ -340,12 +340,12 @@ module _ (n unit : ℕ) where
   pub fresh-takes : n ≤ maxDomains → IsUnit unit → (fresh (pos n) unit .answer .code ≡ ok) × Empty (fresh (pos n) unit .state) n unit
   unfolding fresh
   fresh-takes h u = subst (λ (b : Bool). (freshBy b n unit .answer .code ≡ ok) × Empty (freshBy b n unit .state) n unit) (sym (holds fresh-tells (h, u)))
-      (refl, record { closed = refl; count = refl; unit = refl; domains = refl; regions = refl; waits = refl; sems = refl; queues = refl })
+      (refl, record { closed = refl; count = refl; unit = refl; tasks = refl; regions = refl; waits = refl; sems = refl; queues = refl })
 
   bad : ((n ≤ maxDomains) × IsUnit unit → ⊥) → (fresh (pos n) unit .answer .code ≡ error ePar) × Empty (fresh (pos n) unit .state) 0 1
   unfolding fresh
   bad f = subst (λ (b : Bool). (freshBy b n unit .answer .code ≡ error ePar) × Empty (freshBy b n unit .state) 0 1) (sym (fails fresh-tells f))
-      (refl, record { closed = refl; count = refl; unit = refl; domains = refl; regions = refl; waits = refl; sems = refl; queues = refl })
+      (refl, record { closed = refl; count = refl; unit = refl; tasks = refl; regions = refl; waits = refl; sems = refl; queues = refl })
 
   pub fresh-above : maxDomains < n → (fresh (pos n) unit .answer .code ≡ error ePar) × Empty (fresh (pos n) unit .state) 0 1
   fresh-above h = bad (λ p. omega (arith, p .0))
@@ -355,4 +355,4 @@ module _ (n unit : ℕ) where
 
 pub fresh-below : (k unit : ℕ) → (fresh (negsuc k) unit .answer .code ≡ error ePar) × Empty (fresh (negsuc k) unit .state) 0 1
 unfolding fresh
-fresh-below k unit = (refl, record { closed = refl; count = refl; unit = refl; domains = refl; regions = refl; waits = refl; sems = refl; queues = refl })
+fresh-below k unit = (refl, record { closed = refl; count = refl; unit = refl; tasks = refl; regions = refl; waits = refl; sems = refl; queues = refl })

@@ -11,9 +11,9 @@ use lib.IntN.{ℤ}
 use lib.ListN.{length, take}
 use Rattle.itron.specs.Codes.{Err, Code, ok, waiting, error}
 use Rattle.model.specs.Lists.{keep, anyOf, gathered}
-use Rattle.model.specs.State.{Vector, onSem, receiving, sending, Waiter, State, queueAt, semAt, waiter, no}
+use Rattle.model.specs.State.{Vector, onSem, receiving, sending, Waiter, State, place, queueAt, semAt, waiter, no}
 use Rattle.model.specs.Answers.{Info, Released}
-use Rattle.model.specs.Waits.{Patience, senders, leave}
+use Rattle.model.specs.Waits.{Patience, waitersIn, waitersAt, leave}
 use Rattle.model.specs.Acts.{Act, own, refer, setVector}
 use Rattle.model.specs.Semaphores.{SemaphoreCall, signal, acquire}
 use Rattle.model.specs.Queues.{QueueCall, send, receive, forcedSend}
@@ -24,6 +24,7 @@ use Rattle.model.specs.Sends.{Sent, wordOf, shown, waitingSends, enters,
 use Rattle.model.specs.QueueClaims as Queues
 use Rattle.model.specs.Demand3.{Demand3}
 use Rattle.model.proofs.Lists.{eqb-same, eqb-no, append-cancel, map-append, map-keep}
+use Rattle.model.proofs.QueueClaims.{senders-pending}
 use Rattle.model.proofs.Sends.{buffered-are, finds-room, finds-full, words-of, words-in}
 
 -- ---- no call yet: the queues are empty, the counts are those at the start, nobody waits
@@ -112,15 +113,18 @@ module _ (s₀ s s′ found : State) (h : History) (t : ℤ) (v : ℕ) (info : I
     word-passes p w r m = moved (no n) _ ok (r ∷ []) m _ (mine (own (send p w)))
 
     -- a receive that is done: its word goes out at the front; of a sender that it releases the word comes last
-    freed-words : (rs : List Released) → Demand3 s₀ h s → map wordOf (keep (shown rs) (waitingSends (seen (no n)))) ≡ Queues.wordsIn (keep (λ (e : Waiter). anyOf (λ (r : Released). eqb (r .task) (e .task)) rs) (senders s (no n)))
+    freed-words : (rs : List Released) → Demand3 s₀ h s → map wordOf (keep (shown rs) (waitingSends (seen (no n)))) ≡ Queues.wordsIn (keep (λ (e : Waiter). anyOf (λ (r : Released). eqb (r .task) (e .task)) rs) (waitersAt s (place sending (no n))))
     freed-words rs d =
         let is : Queues.Sender → Bool = λ x. anyOf (λ (r : Released). eqb (r .task) (x .task)) rs in
         words-in (keep (shown rs) (waitingSends (seen (no n))))
-        ∙ ap (map (λ (x : Queues.Sender). x .word)) (map-keep Queues.senderIn is (waitingSends (seen (no n))) ∙ ap (keep is) (sym (d .queues (no n) .sendersAre)) ∙ sym (map-keep Queues.senderOf is (senders s (no n))))
-        ∙ sym (words-of (keep (λ (e : Waiter). is (Queues.senderOf e)) (senders s (no n))))
+        ∙ ap (map (λ (x : Queues.Sender). x .word)) (map-keep Queues.senderIn is (waitingSends (seen (no n))) ∙ ap (keep is) (sym (came d)) ∙ sym (map-keep Queues.senderOf is (waitersAt s (place sending (no n)))))
+        ∙ sym (words-of (keep (λ (e : Waiter). is (Queues.senderOf e)) (waitersAt s (place sending (no n)))))
+      where
+        came : Demand3 s₀ h s → map Queues.senderOf (waitersAt s (place sending (no n))) ≡ map Queues.senderIn (waitingSends (seen (no n)))
+        came d = ap (λ (ws : List Waiter). map Queues.senderOf (waitersIn ws (place sending (no n)))) (d .waitersAre) ∙ senders-pending (no n) h
 
     pub word-taken : (p : Patience) (rs : List Released) → More (onQueue n (own (receive p))) ok rs
-        → v ∷ queueAt s′ (no n) .buffer ≡ queueAt s (no n) .buffer ++ Queues.wordsIn (keep (λ (e : Waiter). anyOf (λ (r : Released). eqb (r .task) (e .task)) rs) (senders s (no n)))
+        → v ∷ queueAt s′ (no n) .buffer ≡ queueAt s (no n) .buffer ++ Queues.wordsIn (keep (λ (e : Waiter). anyOf (λ (r : Released). eqb (r .task) (e .task)) rs) (waitersAt s (place sending (no n))))
     word-taken p rs m = moved (no n) _ ok rs m _ (mine (own (receive p))) ∙ ap (λ (l : List ℕ). queueAt s (no n) .buffer ++ l) (freed-words rs (m .0))
 
     -- a forced send that is done: with room its word comes last; into a full buffer it drops the oldest, which there is

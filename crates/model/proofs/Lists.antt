@@ -1,6 +1,6 @@
 -- Laws of the list functions, once for all. Assumes nothing.
 use mathlib.Core.Path.{_≡_, refl, sym, ap, _∙_, subst}
-use mathlib.Core.Logic.{_≢_}
+use mathlib.Core.Logic.{_≢_, inl, inr}
 use mathlib.Core.Bool.{Bool, true, false, not, _&&_, _||_}
 use mathlib.Core.List.{List, [], _∷_, _++_, map, head-eq-of-cons-eq, tail-eq-of-cons-eq}
 use Prim.Native.Nat.{ℕ, zero, suc, _+_, _-_, _≤_, _<_}
@@ -9,7 +9,7 @@ use lib.ListN.{length, getD, set, take, drop, length-set}
 use lib.Seq.{getD-set-same, getD-set-other}
 use lib.Dec.{eqb, T, eqb→eq, eqb-refl}
 pub use Rattle.model.specs.Conditions.{Distinct}
-use Rattle.model.specs.Lists.{at, put, consIf, keep, All}
+use Rattle.model.specs.Lists.{at, put, consIf, keep, All, Some}
 use Rattle.model.specs.State.{Waiter}
 use Rattle.model.specs.Waits.{isOther, absent}
 
@@ -125,6 +125,17 @@ module _ {A : Type 0} where
       go false false hb hc e = e
 
   -- what passes neither test
+  -- what passes p passes r too, so r leaves it
+  pub keep-within : (p r : A → Bool) → ((x : A) → p x ≡ true → r x ≡ true) → (l : List A) → keep p (keep r l) ≡ keep p l
+  keep-within p r f [] = refl
+  keep-within p r f (x ∷ l) = go (p x) (r x) refl refl (keep-within p r f l)
+    where
+      go : (b c : Bool) → p x ≡ b → r x ≡ c → keep p (keep r l) ≡ keep p l → keep p (consIf c x (keep r l)) ≡ consIf b x (keep p l)
+      go true true h k i = rw h (ap (λ (m : List A). x ∷ m) i)
+      go true false h k i = absurd (no-both (f x h) k)
+      go false true h k i = rw h i
+      go false false h k i = i
+
   pub keep-neither : (p r : A → Bool) (l : List A) → keep (λ x. not (p x)) (keep (λ x. not (r x)) l) ≡ keep (λ x. not (r x || p x)) l
   keep-neither p r [] = refl
   keep-neither p r (x ∷ l) = go (r x) (keep-neither p r l)
@@ -279,19 +290,22 @@ distinct-snoc (x ∷ l) e d h = (
 pub keep-head : (e : Waiter) (l : List Waiter) → Distinct (e ∷ l) → keep (isOther (e .task)) (e ∷ l) ≡ l
 keep-head e l d = rw (eqb-same (e .task)) (keep-absent (e .task) l (d .0))
 
--- ---- the first at a place leaves
-pub leave-same : (p : Waiter → Bool) (w : List Waiter) {e : Waiter} {l : List Waiter} → Distinct w → keep p w ≡ e ∷ l → keep p (keep (isOther (e .task)) w) ≡ l
-leave-same p w {e} {l} d h = keep-comm p (isOther (e .task)) w ∙ ap (keep (isOther (e .task))) h ∙ keep-head e l (rw h at (distinct-keep p w d))
+-- ---- one of those at a place leaves
+other-than : (t : ℕ) (l : List Waiter) (e : Waiter) → absent t l ≡ true → Some (λ (x : Waiter). x ≡ e) l → isOther t e ≡ true
+other-than t [] e h k = absurd k
+other-than t (x ∷ l) e h (inl z) = ap (isOther t) (sym z) ∙ and-left (isOther t x) (absent t l) h
+other-than t (x ∷ l) e h (inr z) = other-than t l e (and-right (isOther t x) (absent t l) h) z
 
-pub away : (p r : Waiter → Bool) (w : List Waiter) {e : Waiter} {l : List Waiter} → Distinct w → ((x : Waiter) → p x ≡ true → r x ≡ false) → keep p w ≡ e ∷ l → absent (e .task) (keep r w) ≡ true
-away p r [] d f h = refl
-away p r (x ∷ w) {e} {l} d f h = go (p x) (r x) refl refl h (away p r w (d .1) f)
+pub away : (p r : Waiter → Bool) (w : List Waiter) (e : Waiter) → Distinct w → ((x : Waiter) → p x ≡ true → r x ≡ false) → Some (λ (x : Waiter). x ≡ e) (keep p w) → absent (e .task) (keep r w) ≡ true
+away p r [] e d f h = refl
+away p r (x ∷ w) e d f h = go (p x) (r x) refl refl h (away p r w e (d .1) f)
   where
-    go : (b c : Bool) → p x ≡ b → r x ≡ c → consIf b x (keep p w) ≡ e ∷ l → (keep p w ≡ e ∷ l → absent (e .task) (keep r w) ≡ true) → absent (e .task) (consIf c x (keep r w)) ≡ true
+    go : (b c : Bool) → p x ≡ b → r x ≡ c → Some (λ (x : Waiter). x ≡ e) (consIf b x (keep p w)) → (Some (λ (x : Waiter). x ≡ e) (keep p w) → absent (e .task) (keep r w) ≡ true) → absent (e .task) (consIf c x (keep r w)) ≡ true
     go true true hb hc k ih = absurd (no-both hc (f x hb))
-    go true false hb hc k ih = let z : x ≡ e = cc in rw z at (absent-keep r (x .task) w (d .0))
-    go false true hb hc k ih = both (isOther-sym e x ∙ and-left (isOther (x .task) e) (absent (x .task) l) (rw k at (absent-keep p (x .task) w (d .0)))) (ih k)
+    go true false hb hc (inl z) ih = ap (λ (y : Waiter). absent (y .task) (keep r w)) (sym z) ∙ absent-keep r (x .task) w (d .0)
+    go true false hb hc (inr z) ih = ih z
+    go false true hb hc k ih = both (isOther-sym e x ∙ other-than (x .task) (keep p w) e (absent-keep p (x .task) w (d .0)) k) (ih k)
     go false false hb hc k ih = ih k
 
-pub leave-other : (p r : Waiter → Bool) (w : List Waiter) {e : Waiter} {l : List Waiter} → Distinct w → ((x : Waiter) → p x ≡ true → r x ≡ false) → keep p w ≡ e ∷ l → keep r (keep (isOther (e .task)) w) ≡ keep r w
-leave-other p r w {e} {l} d f h = keep-comm r (isOther (e .task)) w ∙ keep-absent (e .task) (keep r w) (away p r w d f h)
+pub leave-other : (p r : Waiter → Bool) (w : List Waiter) (e : Waiter) → Distinct w → ((x : Waiter) → p x ≡ true → r x ≡ false) → Some (λ (x : Waiter). x ≡ e) (keep p w) → keep r (keep (isOther (e .task)) w) ≡ keep r w
+leave-other p r w e d f h = keep-comm r (isOther (e .task)) w ∙ keep-absent (e .task) (keep r w) (away p r w e d f h)

@@ -2,8 +2,8 @@
 use mathlib.Core.Path.{_≡_, refl, sym, ap, _∙_, subst}
 use mathlib.Core.Logic.{_⊎_, inl, inr}
 use mathlib.Core.Bool.{Bool, true, false, cond}
-use mathlib.Core.List.{List, [], _∷_, map}
-use Prim.Native.Nat.{ℕ, suc, _≤_}
+use mathlib.Core.List.{List, [], _∷_, _++_, map}
+use Prim.Native.Nat.{ℕ, suc, _≤_, _<_}
 use native.Mathlib.Omega.{arith}
 use lib.ListN.{length}
 use lib.Dec.{eqb, leb}
@@ -12,8 +12,8 @@ use Rattle.model.specs.Lists.{at, keep, consIf, insert, arrange, All, So
 use Rattle.model.specs.State.{TaskEntry, Waiter, noTask}
 use Rattle.model.specs.Waits.{isOther, absent, leave, standing}
 use Rattle.model.specs.QueueClaims.{Rising}
-use Rattle.model.proofs.Lists.{eq-of, and-left, and-right, both, all-keep, all-weaker, isOther-sym, keep-head, Distinct}
-use Rattle.model.proofs.Tests.{holds, le-tells}
+use Rattle.model.proofs.Lists.{eq-of, cons-ne, and-left, and-right, both, all-keep, all-weaker, isOther-sym, keep-head, Distinct}
+use Rattle.model.proofs.Tests.{holds, fails, le-tells}
 
 module _ {A : Type 0} (rank : A → ℕ) where
   -- the lowest rank first
@@ -137,6 +137,13 @@ module _ {A : Type 0} (rank : A → ℕ) where
   pub in-line : (k : ℕ) (l : List A) → keep (λ (x : A). eqb k (rank x)) (arrange rank l) ≡ keep (λ (x : A). eqb k (rank x)) l
   in-line k l = keep-arrange (λ (x : A). eqb k (rank x)) l ∙ equals-stay k (keep (λ (x : A). eqb k (rank x)) l) (kept-rank k l)
 
+  -- first is who ranks lower than all before it in the list and no higher than all behind it
+  pub heads : (l m : List A) (x : A) → All (λ (y : A). rank x < rank y) l → All (λ (y : A). rank x ≤ rank y) m → (r : List A) × (arrange rank (l ++ (x ∷ m)) ≡ x ∷ r)
+  heads [] m x h k = (arrange rank m, insert-front x (arrange rank m) (all-arrange (λ (y : A). rank x ≤ rank y) m k))
+  heads (y ∷ l) m x h k =
+      let i = heads l m x (h .1) k in
+      (insert rank y (i .0), ap (insert rank y) (i .1) ∙ ap (λ (b : Bool). cond b (y ∷ (x ∷ i .0)) (x ∷ insert rank y (i .0))) (fails (le-tells (rank y) (rank x)) (λ z. omega (arith, z, h .0))))
+
   -- in ranks that do not fall
   rises : (l : List A) → Ranked l → Rising (map rank l)
   rises [] o = tt
@@ -231,7 +238,7 @@ pub standing-some : (b : Bool) (ts : List TaskEntry) (P : Waiter → Type 0) (l 
 standing-some true ts P l h = some-arrange (priorityIn ts) P l h
 standing-some false ts P l h = h
 
-standing-distinct : (b : Bool) (ts : List TaskEntry) (l : List Waiter) → Distinct l → Distinct (standing b ts l)
+pub standing-distinct : (b : Bool) (ts : List TaskEntry) (l : List Waiter) → Distinct l → Distinct (standing b ts l)
 standing-distinct true ts l d = distinct-arrange (priorityIn ts) l d
 standing-distinct false ts l d = d
 
@@ -239,3 +246,17 @@ standing-distinct false ts l d = d
 pub standing-leaves : (b : Bool) (ts : List TaskEntry) (l : List Waiter) {e : Waiter} {r : List Waiter} → Distinct l → standing b ts l ≡ e ∷ r → standing b ts (leave (e .task) l) ≡ r
 standing-leaves b ts l {e} {r} d h =
     sym (standing-keep b ts (isOther (e .task)) l) ∙ ap (keep (isOther (e .task))) h ∙ keep-head e r (subst Distinct h (standing-distinct b ts l d))
+
+-- who stands first came, so somebody did
+pub standing-came : (b : Bool) (ts : List TaskEntry) (l : List Waiter) {e : Waiter} {r : List Waiter} → standing b ts l ≡ e ∷ r → Some (λ (x : Waiter). x ≡ e) l
+standing-came b ts l {e} {r} h = standing-some b ts (λ (x : Waiter). x ≡ e) l (subst (Some (λ (x : Waiter). x ≡ e)) (sym h) (inl refl))
+
+pub standing-first : (b : Bool) (ts : List TaskEntry) (l : List Waiter) {e : Waiter} {r : List Waiter} → standing b ts l ≡ e ∷ r → l ≡ [] → ⊥
+standing-first b ts l h z = cons-ne h (ap (standing b ts) z ∙ standing-nobody b ts)
+
+-- ahead of all is who is more urgent than all who came before it and no less urgent than all who came behind it; where all stand as they came, nobody came before it
+pub standing-heads : (b : Bool) (ts : List TaskEntry) (l m : List Waiter) (e : Waiter) → All (λ (y : Waiter). lineIn b ts e < lineIn b ts y) l → All (λ (y : Waiter). lineIn b ts e ≤ lineIn b ts y) m
+    → (r : List Waiter) × (standing b ts (l ++ (e ∷ m)) ≡ e ∷ r)
+standing-heads true ts l m e h k = heads (priorityIn ts) l m e h k
+standing-heads false ts [] m e h k = (m, refl)
+standing-heads false ts (y ∷ l) m e h k = absurd (omega (arith, h .0))

@@ -5,14 +5,14 @@ use native.Mathlib.Omega.{arith}
 use lib.IntN.{ℤ, pos, negsuc}
 use Rattle.access.proofs.Laws.{kernel-always, above-unused}
 use Rattle.access.specs.Patterns.{admitted}
-use Rattle.model.specs.State.{State, domainAt}
+use Rattle.model.specs.State.{State, noTask, domainAt}
 use Rattle.model.specs.Denials.{Ready}
-use Rattle.model.specs.Conditions.{TaskOwner, Sound}
+use Rattle.model.specs.Conditions.{TaskOwner, TaskEntryFits, Sound}
 use Rattle.model.proofs.Lists.{all-at}
 
 -- the bits above n of a pattern decide nothing for a caller
 pub above-nobody : (s : State) (t p : ℕ) → Sound s → Ready s t → admitted (p % 2 ^ (s .fixed .count)) (domainAt s t) ≡ admitted p (domainAt s t)
-above-nobody s t p k r = go (domainAt s t) (all-at (TaskOwner (s .fixed .count)) (pos zero) (s .fixed .domains) t (k .entries .tasks) (r .1 .0 .0) (r .1 .0 .1))
+above-nobody s t p k r = go (domainAt s t) (all-at (TaskEntryFits (s .fixed .count)) noTask (s .fixed .tasks) t (k .entries .tasks) (r .1 .0 .0) (r .1 .0 .1) .0)
   where
     go : (d : ℤ) → TaskOwner (s .fixed .count) d → admitted (p % 2 ^ (s .fixed .count)) d ≡ admitted p d
     go (pos zero) w = absurd (w .0 refl)

@@ -13,7 +13,7 @@ use Rattle.model.specs.declared.Request.the-variants as Requests
 use Rattle.model.specs.declared.sem.SemaphoreRequest.the-variants as SemaphoreRequest
 use Rattle.model.specs.declared.dtq.QueueRequest.the-variants as QueueRequest
 use Rattle.model.specs.Lists.{at, put, consIf, All}
-use Rattle.model.specs.State.{Vector, Sem, Queue, Place, Waiter, State, noSem, noQueue, semAt, queueAt, domainAt, samePlace, no}
+use Rattle.model.specs.State.{Vector, TaskEntry, Sem, Queue, Place, Waiter, State, noTask, noSem, noQueue, taskAt, semAt, queueAt, domainAt, priorityAt, samePlace, no}
 use Rattle.model.specs.Waits.{waitersIn, waitersAt, standsAt}
 use Rattle.model.specs.Acts.{Act, own, refer, setVector}
 use Rattle.model.specs.Rooms.{Room, inRange, onObject}
@@ -74,8 +74,10 @@ module _ {A : Type 0} where
     each-all [] f = tt
     each-all (x ∷ l) f = (f [] l x refl, each-all l (λ a b y e. f (x ∷ a) b y (ap (λ (k : List A). x ∷ k) e)))
 
-pub task-number : (s : State) (l m : List ℤ) (d : ℤ) → s .fixed .domains ≡ l ++ (d ∷ m) → domainAt s (suc (length l)) ≡ d
-task-number s l m d h = ap (λ (k : List ℤ). at (pos 0) k (suc (length l))) h ∙ nth (pos 0) d l m
+pub task-number : (s : State) (l m : List TaskEntry) (x : TaskEntry) → s .fixed .tasks ≡ l ++ (x ∷ m) → (domainAt s (suc (length l)) ≡ x .domain) × (priorityAt s (suc (length l)) ≡ x .priority)
+task-number s l m x h =
+    let e : taskAt s (suc (length l)) ≡ x = ap (λ (k : List TaskEntry). at noTask k (suc (length l))) h ∙ nth noTask x l m in
+    (ap (λ (y : TaskEntry). y .domain) e, ap (λ (y : TaskEntry). y .priority) e)
 
 pub sem-number : (s : State) (l m : List Sem) (x : Sem) → s .sems ≡ l ++ (x ∷ m) → semAt s (suc (length l)) ≡ x
 sem-number s l m x h = ap (λ (k : List Sem). at noSem k (suc (length l))) h ∙ nth noSem x l m

@@ -1,32 +1,33 @@
 -- What one data queue sees of a call, and its part of demand 3 after any list of calls. Assumes nothing.
-use mathlib.Core.Path.{_≡_, refl, sym, ap, _∙_, subst}
+use mathlib.Core.Path.{_≡_, refl, sym, ap, _∙_, subst, subst₂}
 use mathlib.Core.Logic.{_≢_, inl}
 use mathlib.Core.Bool.{Bool, true, false, cond, not}
 use mathlib.Core.List.{List, [], _∷_, _++_, map, append-nil}
 use mathlib.Core.Option.{Option, none, some}
-use Prim.Native.Nat.{ℕ, zero, suc}
+use Prim.Native.Nat.{ℕ, suc}
 use native.Mathlib.Omega.{arith}
 use lib.ListN.{length, length-append}
 use lib.Dec.{eqb, ltb, T}
-use lib.IntN.{ℤ, pos}
+use lib.IntN.{ℤ}
 use borrow.Author.Tests.{ltb-true}
 use Rattle.access.specs.Patterns.{admitted}
 use Rattle.itron.specs.Codes.{Code, ok, waiting, error}
 use Rattle.model.specs.Lists.{at, keep, consIf, anyOf, All, Each}
-use Rattle.model.specs.State.{Vector, Place, Fixed, Queue, receiving, sending, Waiter, State, place, queueAt, domainAt, waiter, setWaits, no}
+use Rattle.model.specs.State.{Vector, Place, Fixed, Queue, receiving, sending, Waiter, State, place, noTask, queueAt, domainAt, priorityAt, waiter, setWaits, no}
 use Rattle.model.specs.Answers.{Effect, Released, Out, out, say, whenOk, whenWaiting, whenAccepted}
-use Rattle.model.specs.Waits.{standsAt, isOther, absent, join, receivers, senders}
+use Rattle.model.specs.Waits.{standsAt, isOther, absent, join, waitersAt, byPriority, receivers, senders}
 use Rattle.model.specs.Acts.{Act, own, refer, setVector, ofOwn}
 use Rattle.model.specs.Rooms.{check, actOn, onRecords, Asks, onObject}
 use Rattle.model.specs.Queues as Queues
 use Rattle.model.specs.Queues.{QueueCall, send, receive, forcedSend, setBuffer, room}
 use Rattle.model.specs.Sends.{Sent, sendIn, sendOf, wordOf, notShown, waitingSends, buffered}
-use Rattle.model.specs.QueueClaims.{askedOf, byQueue, Sender, senderOf, senderIn, maySend, mayReceive, SentAllowed, began, IsReceive, Came, TakenIn, TakenAllowed, Carried}
+use Rattle.model.specs.QueueClaims.{askedOf, byQueue, Sender, senderOf, senderIn, lineOf, Rising, maySend, mayReceive, SentAllowed, began, IsReceive, Came, TakenIn, TakenAllowed, Carried}
 use Rattle.model.specs.Calls.{Op, onSemaphore, onQueue, Call, asks, step}
 use Rattle.model.specs.Conditions.{QueuesFit, QueueEntryFits}
 use Rattle.model.specs.History.{History, event, Made, seenBy, after, history, askedIf, ofAsked, vectorSince, vectorBy, joined, without, pending}
 use Rattle.model.specs.Demand3.{JustClosed}
 use Rattle.model.proofs.Lists.{absent-keep, all-keep, all-snoc, keep-append, keep-comm, keep-neither, map-append, map-keep, eq-of, eqb-same, eqb-sym, and-left, and-right, no-both, Distinct}
+use Rattle.model.proofs.Order.{standing-line, standing-rises}
 use Rattle.model.proofs.WaitQueues.{place-of}
 use Rattle.model.proofs.Fits.{queues-put, buffer-fits}
 use Rattle.model.proofs.Rooms.{roomOf, is-at, Calls, Passed, passed, stranger}
@@ -59,14 +60,14 @@ pub fine-law : (s : State) → Distinct (s .waits) → (q : ℕ) → QueueOk (qv
 fine-law s d q k c = sees room laws askedOf whose s q (λ m s′. QueueOk (qviewOf s′ q)) (record {
   refused = λ t a e. k;
   elsewhere = λ t a s′ e f. via (qview-eq (ap (λ (z : Queue). z .capacity) e) (ap (λ (z : Queue). z .buffer) e) (f d (place sending q) (is-at (laws .tag) q (place sending q) refl refl)) (f d (place receiving q) (is-at (laws .tag) q (place receiving q) refl refl))) k;
-  here = λ t a p. fine-here (s .waits) (s .queues) t q (p .numbered) (p .there) d k a;
+  here = λ t a p. fine-here (s .fixed .tasks) (s .waits) (s .queues) t q (p .numbered) (p .there) d k a;
 }) c
 
 -- ---- the limits of the queues are kept
-queues-here : (s : State) → QueuesFit (s .queues) → (t n : ℕ) (a : Act QueueCall) → QueuesFit (actOn room (s .waits) (s .queues) t n a .records)
+queues-here : (s : State) → QueuesFit (s .queues) → (t n : ℕ) (a : Act QueueCall) → QueuesFit (actOn room (s .fixed .tasks) (s .waits) (s .queues) t n a .records)
 queues-here s f t n refer = f
 queues-here s f t n (setVector v) = queues-put f n _ refl (buffer-fits f n)
-queues-here s f t n (own c) = cover (s .waits) (s .queues) t n (λ c o. QueuesFit (o .records)) (record {
+queues-here s f t n (own c) = cover (s .fixed .tasks) (s .waits) (s .queues) t n (λ c o. QueuesFit (o .records)) (record {
   sendPasses = λ q w e l h. f;
   sendStores = λ q w h r. stored w r;
   sendFails = λ w h r. f;
@@ -94,16 +95,17 @@ pub record Inv (s₀ : State) (s : State) (h : History) : Type 0 where
   pub fine : (q : ℕ) → QueueOk (qviewOf s q)
   pub fixed : s .fixed ≡ s₀ .fixed
   pub capacity : (q : ℕ) → queueAt s q .capacity ≡ queueAt s₀ q .capacity
+  pub attribute : (q : ℕ) → queueAt s q .attribute ≡ queueAt s₀ q .attribute
   pub vectors : (q : ℕ) → queueAt s q .vector ≡ vectorSince (queueAt s₀ q .vector) (byQueue q h)
   pub came : (q : ℕ) → All (λ (e : Waiter). Came (domainAt s₀) (queueAt s₀ q .vector) (e .task) (byQueue q h)) (receivers s q)
 
 module _ (s₀ s : State) (h : History) (i : Inv s₀ s h) where
   -- who is admitted by the state is admitted by the history
   may-send : (q t : ℕ) → admitted (queueAt s q .vector .normal1) (domainAt s t) ≡ true → T (maySend (domainAt s₀) (queueAt s₀ q .vector) t (byQueue q h))
-  may-send q t m = subst (λ (v : Vector). T (admitted (v .normal1) (domainAt s₀ t))) (i .vectors q) (subst (λ (d : Fixed). T (admitted (queueAt s q .vector .normal1) (at (pos zero) (d .domains) t))) (i .fixed) (rw m tt))
+  may-send q t m = subst (λ (v : Vector). T (admitted (v .normal1) (domainAt s₀ t))) (i .vectors q) (subst (λ (d : Fixed). T (admitted (queueAt s q .vector .normal1) (at noTask (d .tasks) t .domain))) (i .fixed) (rw m tt))
 
   may-receive : (q t : ℕ) → admitted (queueAt s q .vector .normal2) (domainAt s t) ≡ true → T (mayReceive (domainAt s₀) (queueAt s₀ q .vector) t (byQueue q h))
-  may-receive q t m = subst (λ (v : Vector). T (admitted (v .normal2) (domainAt s₀ t))) (i .vectors q) (subst (λ (d : Fixed). T (admitted (queueAt s q .vector .normal2) (at (pos zero) (d .domains) t))) (i .fixed) (rw m tt))
+  may-receive q t m = subst (λ (v : Vector). T (admitted (v .normal2) (domainAt s₀ t))) (i .vectors q) (subst (λ (d : Fixed). T (admitted (queueAt s q .vector .normal2) (at noTask (d .tasks) t .domain))) (i .fixed) (rw m tt))
 
   module _ (q : ℕ) where
     abbrev Arrived : ℕ → List (Made QueueCall) → Type 0
@@ -209,9 +211,9 @@ module _ (s₀ s : State) (h : History) (i : Inv s₀ s h) where
     MayTake t (receive a) = T (mayReceive (domainAt s₀) (queueAt s₀ q .vector) t (byQueue q h))
     MayTake t (forcedSend w) = Unit
 
-    took : (t : ℕ) (c : QueueCall) → MayTake t c → (o : Effect Queue) → o ≡ Queues.does (s .waits) (s .queues) t q c
+    took : (t : ℕ) (c : QueueCall) → MayTake t c → (o : Effect Queue) → o ≡ Queues.does (s .fixed .tasks) (s .waits) (s .queues) t q c
         → whenOk Unit (TakenIn (domainAt s₀) (queueAt s₀ q .vector) (record { caller = t; asked = some (own c); answer = o .answer }) (byQueue q h) c) (o .answer .code)
-    took t c m o e = subst (λ (x : Effect Queue). Took c x) (sym e) (cover (s .waits) (s .queues) t q (λ (d : QueueCall) (x : Effect Queue). MayTake t d → Took d x) (record {
+    took t c m o e = subst (λ (x : Effect Queue). Took c x) (sym e) (cover (s .fixed .tasks) (s .waits) (s .queues) t q (λ (d : QueueCall) (x : Effect Queue). MayTake t d → Took d x) (record {
       sendPasses = λ a w e l f z. (first f, tt);
       sendStores = λ a w f g z. tt;
       sendFails = λ w f g z. tt;
@@ -234,10 +236,10 @@ module _ (s₀ s : State) (h : History) (i : Inv s₀ s h) where
         Took d x = whenOk Unit (TakenIn (domainAt s₀) (queueAt s₀ q .vector) (record { caller = t; asked = some (own d); answer = x .answer }) (byQueue q h) d) (x .answer .code)
 
     take-here : (t : ℕ) (a : Act QueueCall) → Passed room s t q a
-        → TakenAllowed (domainAt s₀) (queueAt s₀ q .vector) (record { caller = t; asked = some a; answer = actOn room (s .waits) (s .queues) t q a .answer }) (byQueue q h)
-    take-here t (own (send b w)) p = took t (send b w) tt (Queues.does (s .waits) (s .queues) t q (send b w)) refl
-    take-here t (own (receive b)) p = took t (receive b) (may-receive q t (p .may)) (Queues.does (s .waits) (s .queues) t q (receive b)) refl
-    take-here t (own (forcedSend w)) p = took t (forcedSend w) tt (Queues.does (s .waits) (s .queues) t q (forcedSend w)) refl
+        → TakenAllowed (domainAt s₀) (queueAt s₀ q .vector) (record { caller = t; asked = some a; answer = actOn room (s .fixed .tasks) (s .waits) (s .queues) t q a .answer }) (byQueue q h)
+    take-here t (own (send b w)) p = took t (send b w) tt (Queues.does (s .fixed .tasks) (s .waits) (s .queues) t q (send b w)) refl
+    take-here t (own (receive b)) p = took t (receive b) (may-receive q t (p .may)) (Queues.does (s .fixed .tasks) (s .waits) (s .queues) t q (receive b)) refl
+    take-here t (own (forcedSend w)) p = took t (forcedSend w) tt (Queues.does (s .fixed .tasks) (s .waits) (s .queues) t q (forcedSend w)) refl
     take-here t refer p = tt
     take-here t (setVector v) p = tt
 
@@ -269,7 +271,7 @@ module _ (s₀ s : State) (h : History) (i : Inv s₀ s h) where
     sent-allowed c = sees room laws askedOf whose s q (λ m s′. SentAllowed (domainAt s₀) (queueAt s₀ q .vector) m (byQueue q h)) (record {
       refused = λ t a e. tt;
       elsewhere = λ t a s′ e f. none-sent t (a .code);
-      here = λ t a p. accepted t (ofOwn [] (sendIn (length (byQueue q h)) t) a) (actOn room (s .waits) (s .queues) t q a .answer .code) (sent-here t a p);
+      here = λ t a p. accepted t (ofOwn [] (sendIn (length (byQueue q h)) t) a) (actOn room (s .fixed .tasks) (s .waits) (s .queues) t q a .answer .code) (sent-here t a p);
     }) c
 
   next : (c : Call) → Inv s₀ (step s c .state) (event s c ∷ h)
@@ -278,6 +280,7 @@ module _ (s₀ s : State) (h : History) (i : Inv s₀ s h) where
     fine = λ q. fine-law s (i .distinct) q (i .fine q) c;
     fixed = fixed-law s c ∙ i .fixed;
     capacity = λ q. ap (λ (x : Queue). x .capacity) (entries-law s c .0 q) ∙ i .capacity q;
+    attribute = λ q. ap (λ (x : Queue). x .attribute) (entries-law s c .0 q) ∙ i .attribute q;
     vectors = λ q. set-law s q c ∙ ap (vectorBy (askedOf q (c .op)) (step s c .answer .code)) (i .vectors q);
     came = λ q. ends s (CameLaw q (c .op)) (came-ends q (c .op)) c refl;
   }
@@ -289,6 +292,7 @@ inv s₀ j [] = record {
   fine = λ q. record { idle = inl (rw (j .noWaits) refl); full = inl (rw (j .noWaits) refl) };
   fixed = refl;
   capacity = λ q. refl;
+  attribute = λ q. refl;
   vectors = λ q. refl;
   came = λ q. rw (j .noWaits) tt;
 }
@@ -364,7 +368,7 @@ module _ (q : ℕ) where
     senders-joined op (error e) = refl
     senders-joined op waiting = senders-begun op
 
-  senders-pending : (h : History) → sendersIn (pending h) ≡ map senderIn (waitingSends (byQueue q h))
+  pub senders-pending : (h : History) → sendersIn (pending h) ≡ map senderIn (waitingSends (byQueue q h))
   senders-pending [] = refl
   senders-pending (e ∷ h) =
       let rs = e .answer .released in
@@ -374,33 +378,48 @@ module _ (q : ℕ) where
       ∙ ap (λ (k : List Sender). map senderIn (keep (notShown rs) l) ++ k) (senders-joined (length (byQueue q h)) (no (e .call .caller)) (e .call .op) (e .answer .code))
       ∙ sym (map-append senderIn (keep (notShown rs) l) (whenWaiting [] (sendOf (seenBy (askedOf q) e) (byQueue q h)) (e .answer .code)))
 
-pub senders-are : (s₀ : State) → s₀ .waits ≡ [] → (cs : List Call) (q : ℕ) → map senderOf (senders (after s₀ cs) q) ≡ map senderIn (waitingSends (byQueue q (history s₀ cs)))
-senders-are s₀ j cs q = ap (sendersIn q) (waiters-are s₀ j cs) ∙ senders-pending q (history s₀ cs)
+-- in the order in which they came
+pub senders-came : (s₀ : State) → s₀ .waits ≡ [] → (cs : List Call) (q : ℕ) → map senderOf (waitersAt (after s₀ cs) (place sending q)) ≡ map senderIn (waitingSends (byQueue q (history s₀ cs)))
+senders-came s₀ j cs q = ap (sendersIn q) (waiters-are s₀ j cs) ∙ senders-pending q (history s₀ cs)
+
+-- the line in which a task sends is told by the table
+abbrev lineAt : State → ℕ → ℕ → ℕ
+lineAt s q t = lineOf (priorityAt s) (queueAt s q) t
+
+line-stays : {s₀ s : State} {h : History} → Inv s₀ s h → (q : ℕ) → lineAt s q ≡ lineAt s₀ q
+line-stays i q = λ j t. cond (eqb (i .attribute q j) 1) (at noTask (i .fixed j .tasks) t .priority) 0
 
 -- ---- where every word is
-module _ (s₀ s : State) (q : ℕ) (h : List (Made QueueCall)) (d : Distinct (s .waits)) (k : QueueOk (qviewOf s q)) (e : queueAt s q .capacity ≡ queueAt s₀ q .capacity)
-    (words : queueAt s q .buffer ≡ map wordOf (buffered (queueAt s₀ q .capacity) h)) (then : map senderOf (senders s q) ≡ map senderIn (waitingSends h)) where
+module _ (s₀ s : State) (q : ℕ) (g : History) (i : Inv s₀ s g) (h : List (Made QueueCall))
+    (words : queueAt s q .buffer ≡ map wordOf (buffered (queueAt s₀ q .capacity) h)) (then : map senderOf (waitersAt s (place sending q)) ≡ map senderIn (waitingSends h)) where
   abbrev MovesLaw : Made QueueCall → State → Type 0
-  MovesLaw m s′ = map senderOf (senders s′ q) ≡ map senderIn (waitingSends (m ∷ h)) → Moves (queueAt s₀ q .capacity) m h (queueAt s′ q .buffer)
+  MovesLaw m s′ = map senderOf (waitersAt s′ (place sending q)) ≡ map senderIn (waitingSends (m ∷ h)) → Moves (queueAt s₀ q .capacity) (lineAt s₀ q) m h (queueAt s′ q .buffer)
+
+  -- a call on this queue, by what it finds there
+  here : (t : ℕ) (a : Act QueueCall) → Passed room s t q a → (o : Effect Queue) → o ≡ actOn room (s .fixed .tasks) (s .waits) (s .queues) t q a
+      → Moves (queueAt s₀ q .capacity) (lineAt s₀ q) (record { caller = t; asked = some a; answer = o .answer }) h (Queues.queueIn (o .records) q .buffer)
+  here t a p o e =
+      subst (λ (x : Effect Queue). Moves (queueAt s₀ q .capacity) (lineAt s₀ q) (record { caller = t; asked = some a; answer = x .answer }) h (Queues.queueIn (x .records) q .buffer)) (sym e)
+      (subst₂ (λ (n : ℕ) (f : ℕ → ℕ). Moves n f (record { caller = t; asked = some a; answer = actOn room (s .fixed .tasks) (s .waits) (s .queues) t q a .answer }) h (Queues.queueIn (actOn room (s .fixed .tasks) (s .waits) (s .queues) t q a .records) q .buffer))
+      (i .capacity q) (line-stays i q)
+      (act-moves (s .fixed .tasks) (s .waits) (s .queues) t q (p .numbered) (p .there) (i .distinct) (i .fine q) h (subst (λ (n : ℕ). queueAt s q .buffer ≡ map wordOf (buffered n h)) (sym (i .capacity q)) words) then a))
 
   pub moved : (c : Call) → MovesLaw (seenBy (askedOf q) (event s c)) (step s c .state)
   moved c = sees room laws askedOf whose s q MovesLaw (record {
-    refused = λ t a x now. refused-moves (queueAt s₀ q .capacity) h (queueAt s q .buffer) words t a x;
-    elsewhere = λ t a s′ x f now. elsewhere-moves (queueAt s₀ q .capacity) h (queueAt s q .buffer) words t a (senders s q) (queueAt s′ q .buffer) then
-        (ap (map senderOf) (sym (f d (place sending q) (is-at (laws .tag) q (place sending q) refl refl))) ∙ now) (ap (λ (z : Queue). z .buffer) x);
-    here = λ t a p now. subst (λ (n : ℕ). Moves n (record { caller = t; asked = some a; answer = actOn room (s .waits) (s .queues) t q a .answer }) h (queueAt (onRecords room s (actOn room (s .waits) (s .queues) t q a) .state) q .buffer)) e
-        (act-moves (s .waits) (s .queues) t q (p .numbered) (p .there) d k h (subst (λ (n : ℕ). queueAt s q .buffer ≡ map wordOf (buffered n h)) (sym e) words) then a now);
+    refused = λ t a x now. refused-moves (lineAt s₀ q) (queueAt s₀ q .capacity) h (queueAt s q .buffer) words t a x;
+    elsewhere = λ t a s′ x f now. elsewhere-moves (lineAt s₀ q) (queueAt s₀ q .capacity) h (queueAt s q .buffer) words t a (waitersAt s (place sending q)) (queueAt s′ q .buffer) then
+        (ap (map senderOf) (sym (f (i .distinct) (place sending q) (is-at (laws .tag) q (place sending q) refl refl))) ∙ now) (ap (λ (z : Queue). z .buffer) x);
+    here = λ t a p now. here t a p (actOn room (s .fixed .tasks) (s .waits) (s .queues) t q a) refl;
   }) c
 
-held : (s₀ : State) → JustClosed s₀ → (cs : List Call) (q : ℕ) → Held (queueAt s₀ q .capacity) (byQueue q (history s₀ cs)) (queueAt (after s₀ cs) q .buffer)
+held : (s₀ : State) → JustClosed s₀ → (cs : List Call) (q : ℕ) → Held (queueAt s₀ q .capacity) (lineAt s₀ q) (byQueue q (history s₀ cs)) (queueAt (after s₀ cs) q .buffer)
 unfolding after history
-held s₀ j [] q = rw (j .noWords q) (none-yet (queueAt s₀ q .capacity))
+held s₀ j [] q = rw (j .noWords q) (none-yet (queueAt s₀ q .capacity) (lineAt s₀ q))
 held s₀ j (c ∷ cs) q =
-    let i = inv s₀ j cs in
     let s = after s₀ cs in
     let h = byQueue q (history s₀ cs) in
-    one-more (queueAt s₀ q .capacity) (seenBy (askedOf q) (event s c)) h (queueAt s q .buffer) (queueAt (step s c .state) q .buffer) (held s₀ j cs q)
-    (moved s₀ s q h (i .distinct) (i .fine q) (i .capacity q) (held s₀ j cs q .words) (senders-are s₀ (j .noWaits) cs q) c (senders-are s₀ (j .noWaits) (c ∷ cs) q))
+    one-more (queueAt s₀ q .capacity) (lineAt s₀ q) (seenBy (askedOf q) (event s c)) h (queueAt s q .buffer) (queueAt (step s c .state) q .buffer) (held s₀ j cs q)
+    (moved s₀ s q (history s₀ cs) (inv s₀ j cs) h (held s₀ j cs q .words) (senders-came s₀ (j .noWaits) cs q) c (senders-came s₀ (j .noWaits) (c ∷ cs) q))
 
 each-sent : (s₀ : State) → JustClosed s₀ → (cs : List Call) (q : ℕ) → Each (SentAllowed (domainAt s₀) (queueAt s₀ q .vector)) (byQueue q (history s₀ cs))
 unfolding after history
@@ -412,16 +431,40 @@ unfolding after history
 each-taken s₀ j [] q = tt
 each-taken s₀ j (c ∷ cs) q = (taken s₀ (after s₀ cs) (history s₀ cs) (inv s₀ j cs) q c, each-taken s₀ j cs q)
 
-pub carried : (s₀ : State) → JustClosed s₀ → (cs : List Call) (q : ℕ) → Carried (domainAt s₀) (queueAt s₀ q) (byQueue q (history s₀ cs)) (queueAt (after s₀ cs) q .buffer) (senders (after s₀ cs) q)
+-- ---- the waiting senders as they stand
+module _ (s₀ : State) (j : JustClosed s₀) (cs : List Call) (q : ℕ) where
+  abbrev s : State
+  s = after s₀ cs
+
+  -- in each line in call order
+  senders-are : (n : ℕ) → keep (λ (y : Sender). eqb n (lineAt s₀ q (y .task))) (map senderOf (senders s q)) ≡ keep (λ (y : Sender). eqb n (lineAt s₀ q (y .task))) (map senderIn (waitingSends (byQueue q (history s₀ cs))))
+  senders-are n =
+      subst (λ (f : ℕ → ℕ). keep (λ (y : Sender). eqb n (f (y .task))) (map senderOf (senders s q)) ≡ keep (λ (y : Sender). eqb n (f (y .task))) (map senderOf (waitersAt s (place sending q)))) (line-stays (inv s₀ j cs) q)
+      (sym (map-keep senderOf (λ (y : Sender). eqb n (lineAt s q (y .task))) (senders s q))
+      ∙ ap (map senderOf) (standing-line (byPriority (queueAt s q .attribute)) (s .fixed .tasks) n (waitersAt s (place sending q)))
+      ∙ map-keep senderOf (λ (y : Sender). eqb n (lineAt s q (y .task))) (waitersAt s (place sending q)))
+      ∙ ap (keep (λ (y : Sender). eqb n (lineAt s₀ q (y .task)))) (senders-came s₀ (j .noWaits) cs q)
+
+  -- the more urgent line first
+  in-lines : Rising (map (λ (e : Waiter). lineAt s₀ q (e .task)) (senders s q))
+  in-lines = subst (λ (f : ℕ → ℕ). Rising (map (λ (e : Waiter). f (e .task)) (senders s q))) (line-stays (inv s₀ j cs) q)
+      (standing-rises (byPriority (queueAt s q .attribute)) (s .fixed .tasks) (waitersAt s (place sending q)))
+
+pub carried : (s₀ : State) → JustClosed s₀ → (cs : List Call) (q : ℕ)
+    → Carried (domainAt s₀) (priorityAt s₀) (queueAt s₀ q) (byQueue q (history s₀ cs)) (queueAt (after s₀ cs) q .buffer) (senders (after s₀ cs) q)
 carried s₀ j cs q =
+    let c = queueAt s₀ q .capacity in
+    let h = byQueue q (history s₀ cs) in
+    let b = queueAt (after s₀ cs) q .buffer in
     let i = held s₀ j cs q in
     record {
-      ordered = in-order-held (queueAt s₀ q .capacity) (byQueue q (history s₀ cs)) (queueAt (after s₀ cs) q .buffer) i;
+      ordered = in-order-held c (lineAt s₀ q) h b i;
       handedAre = i .handedAre;
-      placed = all-placed (queueAt s₀ q .capacity) (byQueue q (history s₀ cs)) (queueAt (after s₀ cs) q .buffer) i;
+      placed = all-placed c (lineAt s₀ q) h b i;
       oneEach = i .oneEach;
-      inCallOrder = in-call-order (queueAt s₀ q .capacity) (byQueue q (history s₀ cs)) (queueAt (after s₀ cs) q .buffer) i;
+      inCallOrder = in-call-order c (lineAt s₀ q) h b i;
       sendersAllowed = each-sent s₀ j cs q;
       takersAllowed = each-taken s₀ j cs q;
-      sendersAre = senders-are s₀ (j .noWaits) cs q;
+      sendersAre = senders-are s₀ j cs q;
+      inLines = in-lines s₀ j cs q;
     }

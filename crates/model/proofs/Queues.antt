@@ -13,15 +13,16 @@ use Rattle.access.specs.Vectors.{patternOf}
 use Rattle.itron.specs.Codes.{Err, error, eOacv, eIluse, eTmout, waiting}
 pub use Rattle.model.specs.Conditions.{QView, qview, qviewOf, QueueOk}
 use Rattle.model.specs.Lists.{All}
-use Rattle.model.specs.State.{Vector, Queue, Waiter, State, receiving, sending, place, waiter, noQueue, zeroVector}
+use Rattle.model.specs.State.{Vector, TaskEntry, Queue, Waiter, State, Place, Side, onSem, receiving, sending, place, waiter, noQueue, zeroVector}
 use Rattle.model.specs.Answers.{Effect, effect, say}
-use Rattle.model.specs.Waits.{Patience, polling, forever, waitersIn, leave, join, refusal, wakes, gives}
+use Rattle.model.specs.Waits.{Patience, polling, forever, waitersIn, byPriority, orderOf, standing, leave, join, refusal, wakes, gives}
 use Rattle.model.specs.Acts.{Act, own, refer, setVector, operationOf}
 use Rattle.model.specs.Rooms.{actOn}
-use Rattle.model.specs.Queues.{QueueCall, send, receive, forcedSend, operation, queueIn, setBuffer, hasRoom, begins, serves, sendBy, receiveBy, forceBy, does, room}
+use Rattle.model.specs.Queues.{QueueCall, send, receive, forcedSend, operation, queueIn, setBuffer, hasRoom, sendersOf, begins, serves, sendBy, receiveBy, forceBy, does, room}
 use Rattle.model.specs.QueueClaims.{patternFor}
 use Rattle.model.specs.Conditions.{Plain, Registered}
 use Rattle.model.proofs.Lists.{Distinct, cons-ne, eq-of, ne-of, at-put-same, at-put-keep}
+use Rattle.model.proofs.Order.{standing-none, standing-first}
 use Rattle.model.proofs.WaitQueues.{alike, leave-here, leave-elsewhere, join-here, join-elsewhere}
 use Rattle.model.proofs.Endings.{SameBut, same-all, same-put, Ends}
 use Rattle.model.proofs.Endings as Endings
@@ -70,33 +71,33 @@ module _ (c : ℕ) (b : List ℕ) (x y : List Waiter) (k : QueueOk (qview c b x 
   pub queueUp : (e : Waiter) → y ≡ [] → c ≤ length b → QueueOk (qview c b (x ++ (e ∷ [])) y)
   queueUp e h r = record { idle = inl h; full = inr r }
 
-  -- the oldest word leaves; another comes last for it, while a sender leaves or not
+  -- the oldest word leaves; another comes last for it, while a sender leaves, whichever it is, or not
   pub take : (z : ℕ) (b′ : List ℕ) → b ≡ z ∷ b′ → x ≡ [] → QueueOk (qview c b′ x y)
   take z b′ h r = record { idle = inl (noReceiver h); full = inl r }
 
   as-long : (z w : ℕ) (b′ : List ℕ) → b ≡ z ∷ b′ → c ≤ length b → c ≤ length (b′ ++ (w ∷ []))
   as-long z w b′ h r = let g : length b ≡ suc (length b′) = ap length h in rw (length-append b′ (w ∷ [])) (omega arith)
 
-  pub refill : (z : ℕ) (b′ : List ℕ) (e : Waiter) (l : List Waiter) → b ≡ z ∷ b′ → x ≡ e ∷ l → QueueOk (qview c (b′ ++ (e .word ∷ [])) l y)
-  refill z b′ e l h r = record { idle = inl (noReceiver h); full = go (k .full) }
+  pub refill : (z w : ℕ) (b′ : List ℕ) (l : List Waiter) → b ≡ z ∷ b′ → (x ≡ [] → ⊥) → QueueOk (qview c (b′ ++ (w ∷ [])) l y)
+  refill z w b′ l h r = record { idle = inl (noReceiver h); full = go (k .full) }
     where
-      go : (x ≡ []) ⊎ (c ≤ length b) → (l ≡ []) ⊎ (c ≤ length (b′ ++ (e .word ∷ [])))
-      go (inl q) = absurd (cons-ne r q)
-      go (inr q) = inr (as-long z (e .word) b′ h q)
+      go : (x ≡ []) ⊎ (c ≤ length b) → (l ≡ []) ⊎ (c ≤ length (b′ ++ (w ∷ [])))
+      go (inl q) = absurd (r q)
+      go (inr q) = inr (as-long z w b′ h q)
 
   pub replace : (z w : ℕ) (b′ : List ℕ) → b ≡ z ∷ b′ → c ≤ length b → QueueOk (qview c (b′ ++ (w ∷ [])) x y)
   replace z w b′ h r = record { idle = inl (noReceiver h); full = inr (as-long z w b′ h r) }
 
   -- a sender's word is handed out; a receiver joins
-  pub direct : (e : Waiter) (l : List Waiter) → x ≡ e ∷ l → QueueOk (qview c b l y)
-  direct e l r = record { idle = inl (go (k .idle)); full = go₂ (k .full) }
+  pub direct : (l : List Waiter) → (x ≡ [] → ⊥) → QueueOk (qview c b l y)
+  direct l r = record { idle = inl (go (k .idle)); full = go₂ (k .full) }
     where
       go : (y ≡ []) ⊎ ((b ≡ []) × (x ≡ [])) → y ≡ []
       go (inl z) = z
-      go (inr z) = absurd (cons-ne r (z .1))
+      go (inr z) = absurd (r (z .1))
 
       go₂ : (x ≡ []) ⊎ (c ≤ length b) → (l ≡ []) ⊎ (c ≤ length b)
-      go₂ (inl z) = absurd (cons-ne r z)
+      go₂ (inl z) = absurd (r z)
       go₂ (inr z) = inr z
 
   pub await : (e : Waiter) → b ≡ [] → x ≡ [] → QueueOk (qview c b x (y ++ (e ∷ [])))
@@ -123,7 +124,24 @@ bare x = record { domain = x .domain; attribute = x .attribute; capacity = x .ca
 abbrev pub viewIn : List Waiter → List Queue → ℕ → QView
 viewIn ws xs q = qview (queueIn xs q .capacity) (queueIn xs q .buffer) (waitersIn ws (place sending q)) (waitersIn ws (place receiving q))
 
-module _ (ws : List Waiter) (xs : List Queue) (t q : ℕ) where
+-- ---- in which order those who wait at one stand
+abbrev pub orderOn : List Queue → Side → ℕ → Bool
+orderOn xs onSem q = false
+orderOn xs receiving q = false
+orderOn xs sending q = byPriority (queueIn xs q .attribute)
+
+abbrev pub order : List Queue → Place → Bool
+order xs p = orderOn xs (p .side) (p .number)
+
+pub order-at : (s : State) (p : Place) → roomOf (p .side) ≡ tag → order (s .queues) p ≡ orderOf s (p .side) (p .number)
+order-at s p h = go (p .side) h
+  where
+    go : (d : Side) → roomOf d ≡ tag → orderOn (s .queues) d (p .number) ≡ orderOf s d (p .number)
+    go onSem e = absurd (let z : _≡_ {A = ℕ} 0 1 = e in omega arith)
+    go receiving e = refl
+    go sending e = refl
+
+module _ (ts : List TaskEntry) (ws : List Waiter) (xs : List Queue) (t q : ℕ) where
   -- a claim about a call and what it gives holds if it holds in each of these cases
   pub record Cases (P : QueueCall → Effect Queue → Type 0) : Type 0 where
     pub sendPasses : (p : Patience) (w : ℕ) (e : Waiter) (l : List Waiter) → waitersIn ws (place receiving q) ≡ e ∷ l → P (send p w) (wakes ws xs e 0 w)
@@ -132,12 +150,12 @@ module _ (ws : List Waiter) (xs : List Queue) (t q : ℕ) where
     pub sendFails : (w : ℕ) → waitersIn ws (place receiving q) ≡ [] → ltb (length (queueIn xs q .buffer)) (queueIn xs q .capacity) ≡ false → P (send polling w) (refusal ws xs eTmout)
     pub sendWaits : (w : ℕ) → waitersIn ws (place receiving q) ≡ [] → ltb (length (queueIn xs q .buffer)) (queueIn xs q .capacity) ≡ false
         → P (send forever w) (effect (say waiting 0 []) (join (waiter t sending q w) ws) xs)
-    pub receives : (p : Patience) (x : ℕ) (b : List ℕ) → queueIn xs q .buffer ≡ x ∷ b → waitersIn ws (place sending q) ≡ [] → P (receive p) (gives ws (setBuffer xs q b) x)
-    pub receiveRefills : (p : Patience) (x : ℕ) (b : List ℕ) (e : Waiter) (l : List Waiter) → queueIn xs q .buffer ≡ x ∷ b → waitersIn ws (place sending q) ≡ e ∷ l
+    pub receives : (p : Patience) (x : ℕ) (b : List ℕ) → queueIn xs q .buffer ≡ x ∷ b → sendersOf ts ws xs q ≡ [] → P (receive p) (gives ws (setBuffer xs q b) x)
+    pub receiveRefills : (p : Patience) (x : ℕ) (b : List ℕ) (e : Waiter) (l : List Waiter) → queueIn xs q .buffer ≡ x ∷ b → sendersOf ts ws xs q ≡ e ∷ l
         → P (receive p) (wakes ws (setBuffer xs q (b ++ (e .word ∷ []))) e x 0)
-    pub receivePasses : (p : Patience) (e : Waiter) (l : List Waiter) → queueIn xs q .buffer ≡ [] → waitersIn ws (place sending q) ≡ e ∷ l → P (receive p) (wakes ws xs e (e .word) 0)
-    pub receiveFails : queueIn xs q .buffer ≡ [] → waitersIn ws (place sending q) ≡ [] → P (receive polling) (refusal ws xs eTmout)
-    pub receiveWaits : queueIn xs q .buffer ≡ [] → waitersIn ws (place sending q) ≡ [] → P (receive forever) (effect (say waiting 0 []) (join (waiter t receiving q 0) ws) xs)
+    pub receivePasses : (p : Patience) (e : Waiter) (l : List Waiter) → queueIn xs q .buffer ≡ [] → sendersOf ts ws xs q ≡ e ∷ l → P (receive p) (wakes ws xs e (e .word) 0)
+    pub receiveFails : queueIn xs q .buffer ≡ [] → sendersOf ts ws xs q ≡ [] → P (receive polling) (refusal ws xs eTmout)
+    pub receiveWaits : queueIn xs q .buffer ≡ [] → sendersOf ts ws xs q ≡ [] → P (receive forever) (effect (say waiting 0 []) (join (waiter t receiving q 0) ws) xs)
     pub forceMisused : (w : ℕ) → queueIn xs q .capacity ≡ 0 → P (forcedSend w) (refusal ws xs eIluse)
     pub forcePasses : (w : ℕ) (e : Waiter) (l : List Waiter) → queueIn xs q .capacity ≢ 0 → waitersIn ws (place receiving q) ≡ e ∷ l → P (forcedSend w) (wakes ws xs e 0 w)
     pub forceStores : (w : ℕ) → waitersIn ws (place receiving q) ≡ [] → ltb (length (queueIn xs q .buffer)) (queueIn xs q .capacity) ≡ true
@@ -146,7 +164,7 @@ module _ (ws : List Waiter) (xs : List Queue) (t q : ℕ) where
         → P (forcedSend w) (gives ws (setBuffer xs q (b ++ (w ∷ []))) 0)
 
   module _ (P : QueueCall → Effect Queue → Type 0) (cs : Cases P) where
-    pub cover : (c : QueueCall) → P c (does ws xs t q c)
+    pub cover : (c : QueueCall) → P c (does ts ws xs t q c)
     cover (send p w) = go p (waitersIn ws (place receiving q)) (hasRoom (queueIn xs q)) refl refl
       where
         go : (p : Patience) (l : List Waiter) (room : Bool) → waitersIn ws (place receiving q) ≡ l → hasRoom (queueIn xs q) ≡ room → P (send p w) (sendBy ws xs t q w p l room)
@@ -154,9 +172,9 @@ module _ (ws : List Waiter) (xs : List Queue) (t q : ℕ) where
         go p [] true h k = cs .sendStores p w h k
         go polling [] false h k = cs .sendFails w h k
         go forever [] false h k = cs .sendWaits w h k
-    cover (receive p) = go p (queueIn xs q .buffer) (waitersIn ws (place sending q)) refl refl
+    cover (receive p) = go p (queueIn xs q .buffer) (sendersOf ts ws xs q) refl refl
       where
-        go : (p : Patience) (b : List ℕ) (l : List Waiter) → queueIn xs q .buffer ≡ b → waitersIn ws (place sending q) ≡ l → P (receive p) (receiveBy ws xs t q p b l)
+        go : (p : Patience) (b : List ℕ) (l : List Waiter) → queueIn xs q .buffer ≡ b → sendersOf ts ws xs q ≡ l → P (receive p) (receiveBy ws xs t q p b l)
         go p (x ∷ b) [] h k = cs .receives p x b h k
         go p (x ∷ b) (e ∷ l) h k = cs .receiveRefills p x b e l h k
         go p [] (e ∷ l) h k = cs .receivePasses p e l h k
@@ -176,16 +194,20 @@ module _ (ws : List Waiter) (xs : List Queue) (t q : ℕ) where
         go false [] true n h k = cs .forceStores w h k
         go false [] false n h k = full (queueIn xs q .buffer) refl (ne-of _ 0 n) h k
 
-  abbrev EndsSo : QueueCall → Effect Queue → Type 0
-  EndsSo c o = Ends Queue ws xs t (isAt tag q) (SameBut noQueue entry q xs) (begins t q c) (serves q c) o
+  -- nobody stands in line to send, so nobody waits to
+  nobody : sendersOf ts ws xs q ≡ [] → waitersIn ws (place sending q) ≡ []
+  nobody = standing-none (byPriority (queueIn xs q .attribute)) ts (waitersIn ws (place sending q))
 
-  pub ends : (c : QueueCall) → Ends Queue ws xs t (isAt tag q) (SameBut noQueue entry q xs) (begins t q c) (serves q c) (does ws xs t q c)
+  abbrev EndsSo : QueueCall → Effect Queue → Type 0
+  EndsSo c o = Ends Queue ts ws xs t (isAt tag q) (order xs) (SameBut noQueue entry q xs) (begins t q c) (serves q c) o
+
+  pub ends : (c : QueueCall) → Ends Queue ts ws xs t (isAt tag q) (order xs) (SameBut noQueue entry q xs) (begins t q c) (serves q c) (does ts ws xs t q c)
   ends c = cover EndsSo (record {
     sendPasses = λ p w e l h. Endings.wakes xs (place receiving q) e l 0 w (same-all noQueue entry q xs) (is-at tag q (place receiving q) refl refl) refl h;
     sendStores = λ p w h r. Endings.gives _ 0 (same-put noQueue entry q xs _ refl) h;
     sendFails = λ w h r. Endings.refused eTmout late;
     sendWaits = λ w h r. Endings.waits (waiter t sending q w) refl (is-at tag q (place sending q) refl refl) refl h;
-    receives = λ p x b h r. Endings.gives _ x (same-put noQueue entry q xs _ refl) r;
+    receives = λ p x b h r. Endings.gives _ x (same-put noQueue entry q xs _ refl) (nobody r);
     receiveRefills = λ p x b e l h r. Endings.wakes _ (place sending q) e l x 0 (same-put noQueue entry q xs _ refl) (is-at tag q (place sending q) refl refl) refl r;
     receivePasses = λ p e l h r. Endings.wakes xs (place sending q) e l (e .word) 0 (same-all noQueue entry q xs) (is-at tag q (place sending q) refl refl) refl r;
     receiveFails = λ h r. Endings.refused eTmout late;
@@ -211,7 +233,7 @@ module _ (ws : List Waiter) (xs : List Queue) (t q : ℕ) where
     abbrev FineLaw : QueueCall → Effect Queue → Type 0
     FineLaw c o = QueueOk (viewIn (o .waits) (o .records) q)
 
-    pub fine-here : (a : Act QueueCall) → QueueOk (viewIn (actOn room ws xs t q a .waits) (actOn room ws xs t q a .records) q)
+    pub fine-here : (a : Act QueueCall) → QueueOk (viewIn (actOn room ts ws xs t q a .waits) (actOn room ts ws xs t q a .records) q)
     fine-here refer = k
     fine-here (setVector v) = via (qview-eq (at-put-keep (λ (x : Queue). x .capacity) noQueue xs q q _ refl) (at-put-keep (λ (x : Queue). x .buffer) noQueue xs q q _ refl) refl refl) k
     fine-here (own c) = cover FineLaw (record {
@@ -220,12 +242,12 @@ module _ (ws : List Waiter) (xs : List Queue) (t q : ℕ) where
       sendFails = λ w f g. k;
       sendWaits = λ w f g. via (qview-eq refl refl (join-here ws (waiter t sending q w) (place sending q) (alike (place sending q))) (join-elsewhere ws (waiter t sending q w) (place receiving q) refl))
           (queueUp _ _ _ _ k (waiter t sending q w) f (ltb-false _ _ g));
-      receives = λ p x b f g. via (refilled b refl refl) (take _ _ _ _ k x b f g);
-      receiveRefills = λ p x b e l f g. via (refilled (b ++ (e .word ∷ [])) (leave-here ws (place sending q) d g) (leave-elsewhere ws (place sending q) (place receiving q) d refl g)) (refill _ _ _ _ k x b e l f g);
-      receivePasses = λ p e l f g. via (qview-eq refl refl (leave-here ws (place sending q) d g) (leave-elsewhere ws (place sending q) (place receiving q) d refl g)) (direct _ _ _ _ k e l g);
+      receives = λ p x b f g. via (refilled b refl refl) (take _ _ _ _ k x b f (nobody g));
+      receiveRefills = λ p x b e l f g. via (refilled (b ++ (e .word ∷ [])) refl (still g)) (refill _ _ _ _ k x (e .word) b _ f (some g));
+      receivePasses = λ p e l f g. via (qview-eq refl refl refl (still g)) (direct _ _ _ _ k _ (some g));
       receiveFails = λ f g. k;
       receiveWaits = λ f g. via (qview-eq refl refl (join-elsewhere ws (waiter t receiving q 0) (place sending q) refl) (join-here ws (waiter t receiving q 0) (place receiving q) (alike (place receiving q))))
-          (await _ _ _ _ k (waiter t receiving q 0) f g);
+          (await _ _ _ _ k (waiter t receiving q 0) f (nobody g));
       forceMisused = λ w f. k;
       forcePasses = λ w e l n f. passed f;
       forceStores = λ w f g. stored w f g;
@@ -233,7 +255,14 @@ module _ (ws : List Waiter) (xs : List Queue) (t q : ℕ) where
     }) c
       where
         passed : {e : Waiter} {l : List Waiter} → waitersIn ws (place receiving q) ≡ e ∷ l → QueueOk (viewIn (leave (e .task) ws) xs q)
-        passed f = via (qview-eq refl refl (leave-elsewhere ws (place receiving q) (place sending q) d refl f) (leave-here ws (place receiving q) d f)) (pass _ _ _ _ k f)
+        passed f = via (qview-eq refl refl (leave-elsewhere ws false ts (place receiving q) d f (place sending q) refl) (leave-here ws false ts (place receiving q) d f)) (pass _ _ _ _ k f)
+
+        -- a sender is released: the receivers stay, and there was one
+        still : {e : Waiter} {l : List Waiter} → sendersOf ts ws xs q ≡ e ∷ l → waitersIn (leave (e .task) ws) (place receiving q) ≡ waitersIn ws (place receiving q)
+        still g = leave-elsewhere ws (byPriority (queueIn xs q .attribute)) ts (place sending q) d g (place receiving q) refl
+
+        some : {e : Waiter} {l : List Waiter} → sendersOf ts ws xs q ≡ e ∷ l → waitersIn ws (place sending q) ≡ [] → ⊥
+        some g = standing-first (byPriority (queueIn xs q .attribute)) ts (waitersIn ws (place sending q)) g
 
         stored : (w : ℕ) → waitersIn ws (place receiving q) ≡ [] → ltb (length (queueIn xs q .buffer)) (queueIn xs q .capacity) ≡ true → QueueOk (viewIn ws (setBuffer xs q (queueIn xs q .buffer ++ (w ∷ []))) q)
         stored w f g = via (refilled (queueIn xs q .buffer ++ (w ∷ [])) refl refl) (store _ _ _ _ k w f (ltb-true _ _ g))
@@ -267,10 +296,12 @@ laws = record {
   bare-vector = λ x v. refl;
   vector-entry = λ x. refl;
   vector-set = λ x v. refl;
+  order = order;
+  order-at = order-at;
   ends = ends;
   begun = begins-mine;
   plain = begins-plain;
   unserved = serves-no;
-  told-first = λ ws xs q m h. h (place sending q);
-  told-second = λ ws xs q m h. h (place receiving q);
+  told-first = λ ts ws xs q m h. h (byPriority (queueIn xs q .attribute)) (place sending q);
+  told-second = λ ts ws xs q m h. h false (place receiving q);
 }

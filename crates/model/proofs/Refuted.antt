@@ -13,7 +13,7 @@ use Rattle.itron.specs.Limits.{minUnit}
 use Rattle.access.specs.Patterns.{admitted}
 use Rattle.itron.specs.Codes.{Err, Code, ok, waiting, error, eOacv, eQovr, eTmout}
 use Rattle.model.specs.Lists.{gathered}
-use Rattle.model.specs.State.{Vector, onSem, receiving, sending, Place, Waiter, State, stateWith, setWaits, setSems, setQueues, place, sideNumber, waiter}
+use Rattle.model.specs.State.{Vector, TaskEntry, onSem, receiving, sending, Place, Waiter, State, stateWith, setWaits, setSems, setQueues, place, sideNumber, waiter}
 use Rattle.model.specs.Answers.{Released, say}
 use Rattle.model.specs.Waits.{polling, forever}
 use Rattle.model.specs.Acts.{own, setVector}
@@ -32,10 +32,14 @@ use Rattle.model.proofs.Lists.{no-both, eqb-same}
 abbrev for : ℕ → Vector
 for p = record { normal1 = p; normal2 = p; management = p; reference = p }
 
+-- a task of a domain, of priority 1
+abbrev of : ℕ → TaskEntry
+of d = record { domain = pos d; priority = 1 }
+
 abbrev table : List Waiter → ℕ → List ℕ → State
 table ws k b =
     setQueues
-    (setSems (setWaits (stateWith (record { closed = true; count = 2; unit = minUnit; domains = pos 1 ∷ pos 2 ∷ pos 1 ∷ pos 1 ∷ []; regions = [] })) ws) (record { domain = negsuc 0; attribute = 0; max = 9; count = k; vector = for 1 } ∷ []))
+    (setSems (setWaits (stateWith (record { closed = true; count = 2; unit = minUnit; tasks = of 1 ∷ of 2 ∷ of 1 ∷ of 1 ∷ []; regions = [] })) ws) (record { domain = negsuc 0; attribute = 0; max = 9; count = k; vector = for 1 } ∷ []))
     (record { domain = negsuc 0; attribute = 0; capacity = 2; buffer = b; vector = for 1 } ∷ [])
 
 abbrev start : State
@@ -135,26 +139,26 @@ abbrev waits : Event
 waits = did 1 (onQueue (pos 1) (own (send forever 700))) waiting 0 []
 
 pub sender-forgotten : Claims (waits ∷ []) (700 ∷ []) → ⊥
-sender-forgotten d = let e : _≡_ {A = ℕ} 0 1 = ap length (d .queues 1 .sendersAre) in omega arith
+sender-forgotten d = let e : _≡_ {A = ℕ} 0 1 = ap length (d .queues 1 .sendersAre 0) in omega arith
 
 pub sender-other-word : Demand3 start (waits ∷ []) (table (waiter 1 sending 1 701 ∷ []) 0 []) → ⊥
-sender-other-word d = let e : _≡_ {A = ℕ} 701 700 = ap (λ (l : List Sender). getD (map (λ (x : Sender). x .word) l) 0 0) (d .queues 1 .sendersAre) in omega arith
+sender-other-word d = let e : _≡_ {A = ℕ} 701 700 = ap (λ (l : List Sender). getD (map (λ (x : Sender). x .word) l) 0 0) (d .queues 1 .sendersAre 0) in omega arith
 
 pub still-there : Demand3 start (did 3 (onQueue (pos 1) (own (receive polling))) ok 700 (released 1 0) ∷ waits ∷ []) (table (waiter 1 sending 1 700 ∷ []) 0 []) → ⊥
-still-there d = let e : _≡_ {A = ℕ} 1 0 = ap length (d .queues 1 .sendersAre) in omega arith
+still-there d = let e : _≡_ {A = ℕ} 1 0 = ap length (d .queues 1 .sendersAre 0) in omega arith
 
 -- two of them: in call order, and none missing
 abbrev two-wait : History
 two-wait = did 3 (onQueue (pos 1) (own (send forever 701))) waiting 0 [] ∷ waits ∷ []
 
 pub senders-swapped : Demand3 start two-wait (table (waiter 3 sending 1 701 ∷ waiter 1 sending 1 700 ∷ []) 0 []) → ⊥
-senders-swapped d = let e : _≡_ {A = ℕ} 3 1 = ap (λ (l : List Sender). getD (map (λ (x : Sender). x .task) l) 0 0) (d .queues 1 .sendersAre) in omega arith
+senders-swapped d = let e : _≡_ {A = ℕ} 3 1 = ap (λ (l : List Sender). getD (map (λ (x : Sender). x .task) l) 0 0) (d .queues 1 .sendersAre 0) in omega arith
 
 pub words-swapped : Demand3 start two-wait (table (waiter 1 sending 1 701 ∷ waiter 3 sending 1 700 ∷ []) 0 []) → ⊥
-words-swapped d = let e : _≡_ {A = ℕ} 701 700 = ap (λ (l : List Sender). getD (map (λ (x : Sender). x .word) l) 0 0) (d .queues 1 .sendersAre) in omega arith
+words-swapped d = let e : _≡_ {A = ℕ} 701 700 = ap (λ (l : List Sender). getD (map (λ (x : Sender). x .word) l) 0 0) (d .queues 1 .sendersAre 0) in omega arith
 
 pub second-sender-lost : Demand3 start two-wait (table (waiter 1 sending 1 700 ∷ []) 0 []) → ⊥
-second-sender-lost d = let e : _≡_ {A = ℕ} 1 2 = ap length (d .queues 1 .sendersAre) in omega arith
+second-sender-lost d = let e : _≡_ {A = ℕ} 1 2 = ap length (d .queues 1 .sendersAre 0) in omega arith
 
 -- ---- where every word is (request T-05); queue 1 has room for two words
 abbrev forces : ℕ → ℕ → Event
@@ -232,15 +236,15 @@ denied-taker-of-force d = d .queues 1 .takersAllowed .0 .0 .1
 pub overtaken : Demand3 start
     (did 4 (onQueue (pos 1) (own (receive polling))) ok 700 (released 3 0) ∷ did 3 (onQueue (pos 1) (own (send forever 700))) waiting 0 [] ∷ waits ∷ sends 4 700 ∷ sends 4 700 ∷ [])
     (table (waiter 1 sending 1 700 ∷ []) 0 (700 ∷ 700 ∷ [])) → ⊥
-overtaken d = let e : 3 < 2 = d .queues 1 .inCallOrder .1 .1 .0 .0 in omega arith
+overtaken d = let e : 3 < 2 = d .queues 1 .inCallOrder 0 .1 .1 .0 .0 in omega arith
 
 -- one that enters while another waits
 pub waiter-passed : Demand3 start (sends 3 701 ∷ waits ∷ []) (table (waiter 1 sending 1 700 ∷ []) 0 (701 ∷ [])) → ⊥
-waiter-passed d = let e : 1 < 0 = d .queues 1 .inCallOrder .0 .0 in omega arith
+waiter-passed d = let e : 1 < 0 = d .queues 1 .inCallOrder 0 .0 .0 in omega arith
 
 -- where a forced send has passed it before
 pub waiter-passed-after-force : Demand3 start (sends 3 701 ∷ forces 4 5 ∷ waits ∷ []) (table (waiter 1 sending 1 700 ∷ []) 0 (5 ∷ 701 ∷ [])) → ⊥
-waiter-passed-after-force d = let e : 2 < 0 = d .queues 1 .inCallOrder .0 .0 in omega arith
+waiter-passed-after-force d = let e : 2 < 0 = d .queues 1 .inCallOrder 0 .0 .0 in omega arith
 
 -- "in exactly one place": buffered and with its sender; and, once a set-vector has released the sender, nowhere
 pub in-two-places : Demand3 start (waits ∷ []) (table (waiter 1 sending 1 700 ∷ []) 0 (700 ∷ [])) → ⊥
@@ -347,7 +351,7 @@ counted-twice d = let e : _≡_ {A = ℕ} 2 1 = d .semaphores 1 in omega arith
 
 -- ---- whatever the number of the queue or the semaphore: a word lost, and a grant for nothing, where there is nothing at the start
 abbrev empty : State
-empty = stateWith (record { closed = true; count = 2; unit = minUnit; domains = pos 1 ∷ []; regions = [] })
+empty = stateWith (record { closed = true; count = 2; unit = minUnit; tasks = of 1 ∷ []; regions = [] })
 
 pub lost-anywhere : (q : ℕ) → Demand3 empty (did 1 (onQueue (pos (suc q)) (own (send polling 700))) ok 0 [] ∷ []) empty → ⊥
 lost-anywhere q d = go (eqb (suc q) (suc q)) (eqb-same (suc q)) (d .queues (suc q) .ordered)
@@ -372,7 +376,7 @@ granted-anywhere i d = go (eqb (suc i) (suc i)) (eqb-same (suc i)) (d .semaphore
 -- ---- four different patterns: task t is of domain t; queue 2 admits domain 1 to send, 2 to receive, 3 to set its vector and 4 to refer to it
 abbrev four : List Waiter → List ℕ → State
 four ws b =
-    setQueues (setWaits (stateWith (record { closed = true; count = 4; unit = minUnit; domains = pos 1 ∷ pos 2 ∷ pos 3 ∷ pos 4 ∷ []; regions = [] })) ws)
+    setQueues (setWaits (stateWith (record { closed = true; count = 4; unit = minUnit; tasks = of 1 ∷ of 2 ∷ of 3 ∷ of 4 ∷ []; regions = [] })) ws)
     (record { domain = negsuc 0; attribute = 0; capacity = 2; buffer = []; vector = for 0 }
     ∷ record { domain = negsuc 0; attribute = 0; capacity = 2; buffer = b; vector = record { normal1 = 1; normal2 = 2; management = 4; reference = 8 } }
     ∷ [])

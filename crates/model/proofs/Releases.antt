@@ -6,10 +6,10 @@ use mathlib.Core.List.{List, [], _∷_}
 use mathlib.Core.Option.{Option, some}
 use Prim.Native.Nat.{ℕ}
 use Rattle.itron.specs.Codes.{ok}
-use Rattle.model.specs.Lists.{consIf, All, Each}
+use Rattle.model.specs.Lists.{consIf, All, Some, Each}
 use Rattle.model.specs.State.{Place, Waiter, State}
 use Rattle.model.specs.Answers.{Released, Out}
-use Rattle.model.specs.Waits.{standsAt, isOther, waitersIn, leave}
+use Rattle.model.specs.Waits.{standsAt, isOther, waitersIn, waitersAt, orderOf, waitQueue, leave}
 use Rattle.model.specs.Acts.{own, refer, setVector}
 use Rattle.model.specs.Rooms.{Asks}
 use Rattle.model.specs.Semaphores.{signal, acquire}
@@ -17,7 +17,8 @@ use Rattle.model.specs.Queues.{send, receive, forcedSend}
 use Rattle.model.specs.Calls.{Op, onSemaphore, onQueue, Call, asks, step}
 use Rattle.model.specs.History.{event, after, history}
 use Rattle.model.specs.Releases.{servedBy, WaitsAt, WaitsNot, EndsWait, Once, ReleasesWaiters}
-use Rattle.model.proofs.Lists.{no-both, eqb-same, cons-ne}
+use Rattle.model.proofs.Lists.{no-both, eqb-same}
+use Rattle.model.proofs.Order.{standing-came}
 use Rattle.model.proofs.WaitQueues.{place-of}
 use Rattle.model.proofs.Cover.{Endings, ends}
 use Rattle.model.proofs.Steps.{waiters-are}
@@ -35,13 +36,17 @@ served-is (onQueue n refer) = refl
 served-is (onQueue n (setVector v)) = refl
 
 -- ---- who stands first in a wait queue waits there; who has left does not wait
-first-waits : (ws : List Waiter) (p : Place) {e : Waiter} {l : List Waiter} → waitersIn ws p ≡ e ∷ l → WaitsAt (some p) (e .task) ws
-first-waits [] p h = absurd (cons-ne h refl)
-first-waits (x ∷ ws) p {e} {l} h = go (standsAt p x) refl h (first-waits ws p)
+waits-there : (ws : List Waiter) (p : Place) (e : Waiter) → Some (λ (x : Waiter). x ≡ e) (waitersIn ws p) → WaitsAt (some p) (e .task) ws
+waits-there [] p e h = h
+waits-there (x ∷ ws) p e h = go (standsAt p x) refl h (waits-there ws p e)
   where
-    go : (b : Bool) → standsAt p x ≡ b → consIf b x (waitersIn ws p) ≡ e ∷ l → (waitersIn ws p ≡ e ∷ l → WaitsAt (some p) (e .task) ws) → WaitsAt (some p) (e .task) (x ∷ ws)
-    go true z k ih = let y : x ≡ e = cc in inl (ap (λ (w : Waiter). w .task) y, place-of p (x .place) z)
+    go : (b : Bool) → standsAt p x ≡ b → Some (λ (x : Waiter). x ≡ e) (consIf b x (waitersIn ws p)) → (Some (λ (x : Waiter). x ≡ e) (waitersIn ws p) → WaitsAt (some p) (e .task) ws) → WaitsAt (some p) (e .task) (x ∷ ws)
+    go true z (inl y) ih = inl (ap (λ (w : Waiter). w .task) y, place-of p (x .place) z)
+    go true z (inr k) ih = inr (ih k)
     go false z k ih = inr (ih k)
+
+first-waits : (s : State) (p : Place) (e : Waiter) (l : List Waiter) → waitQueue s p ≡ e ∷ l → WaitsAt (some p) (e .task) (s .waits)
+first-waits s p e l h = waits-there (s .waits) p e (standing-came (orderOf s (p .side) (p .number)) (s .fixed .tasks) (waitersAt s p) h)
 
 left : (t : ℕ) (ws : List Waiter) → WaitsNot t (leave t ws)
 left t [] = tt
@@ -64,7 +69,7 @@ release-ends s = record {
   refused = λ t x e o. (tt, tt);
   tells = λ t x r o. (tt, tt);
   gives = λ t x s′ w k v. (tt, tt);
-  wakes = λ t x s′ p e l w h k v f. (((refl, (rw v (first-waits (s .waits) p f), rw (k .waits) (left (e .task) (s .waits)))), tt), (tt, tt));
+  wakes = λ t x s′ p e l w h k v f. (((refl, (rw v (first-waits s p e l f), rw (k .waits) (left (e .task) (s .waits)))), tt), (tt, tt));
   waits = λ t x e h c z p b v. (tt, tt);
 }
 

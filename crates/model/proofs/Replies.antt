@@ -11,11 +11,12 @@ use Rattle.model.specs.declared.Outcome.the-variants as Outcome
 use Rattle.model.specs.Lists.{All}
 use Rattle.model.specs.State.{Place, Waiter, State}
 use Rattle.model.specs.Answers.{Released, Out, outcomeOf, releasedOf, replyOf}
-use Rattle.model.specs.Waits.{waitersAt, standsAt}
+use Rattle.model.specs.Waits.{waitersAt, orderOf, waitQueue, standsAt}
 use Rattle.model.specs.Rooms.{Asks}
 use Rattle.model.specs.Calls.{Call, step}
 use Rattle.model.specs.Conditions.{Known, Fit}
 use Rattle.model.proofs.Lists.{all-keep}
+use Rattle.model.proofs.Order.{standing-all}
 use Rattle.model.proofs.Cover.{Endings, ends}
 use Rattle.model.proofs.Answers.{answers, refuses, with}
 
@@ -46,10 +47,13 @@ module _ (s : State) (f : Fit s) where
   nobody : Shows []
   nobody = record { few = omega arith; none = λ h. refl }
 
-  numbered : (p : Place) (e : Waiter) (l : List Waiter) → waitersAt s p ≡ e ∷ l → e .task ≢ 0
-  numbered p e l h = subst (λ (m : List Waiter). All (Known (length (s .fixed .domains))) m) h (all-keep (Known (length (s .fixed .domains))) (standsAt p) (s .waits) (f .waits .known)) .0 .0
+  numbered : (p : Place) (e : Waiter) (l : List Waiter) → waitQueue s p ≡ e ∷ l → e .task ≢ 0
+  numbered p e l h =
+      let n = length (s .fixed .tasks) in
+      let k = standing-all (orderOf s (p .side) (p .number)) (s .fixed .tasks) (Known n) (waitersAt s p) (all-keep (Known n) (standsAt p) (s .waits) (f .waits .known)) in
+      subst (All (Known n)) h k .0 .0
 
-  one : (p : Place) (e : Waiter) (l : List Waiter) → waitersAt s p ≡ e ∷ l → (w : ℕ) → Shows (with e w)
+  one : (p : Place) (e : Waiter) (l : List Waiter) → waitQueue s p ≡ e ∷ l → (w : ℕ) → Shows (with e w)
   one p e l h w = record { few = omega arith; none = λ z. absurd (numbered p e l h z) }
 
   shows-ends : Endings s ShowsLaw

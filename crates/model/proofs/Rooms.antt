@@ -12,9 +12,9 @@ use lib.ListN.{length}
 use Rattle.access.specs.Vectors.{patternOf}
 use Rattle.itron.specs.Codes.{Err, eCtx, eId, ePar, eNoexs, eOacv, Code, ok, waiting, error}
 use Rattle.model.specs.Lists.{at, All}
-use Rattle.model.specs.State.{Vector, Waiter, Side, onSem, receiving, sending, Place, State, setWaits, domainAt, no}
+use Rattle.model.specs.State.{Vector, TaskEntry, Waiter, Side, onSem, receiving, sending, Place, State, setWaits, domainAt, no}
 use Rattle.model.specs.Answers.{whenOk, whenAccepted}
-use Rattle.model.specs.Waits.{absent, waitersIn, firstTask}
+use Rattle.model.specs.Waits.{absent, waitersIn, standing, orderOf, firstTask}
 use Rattle.model.specs.Acts.{Act, own, refer, setVector, ofOwn, operationOf, isRefer}
 use Rattle.model.specs.Rooms.{Room, ready, inRange, admits, vectorAt, slotsOf, check, actOn, Asks, onObject}
 use Rattle.model.specs.History.{vectorBy}
@@ -70,15 +70,19 @@ pub record RoomLaws {C R : Type 0} (r : Room C R) : Type 0 where
   pub bare-vector : (x : R) (v : Vector) → bare (r .withVector x v) ≡ bare x
   pub vector-entry : (x : R) → r .vector (entry x) ≡ r .vector x
   pub vector-set : (x : R) (v : Vector) → r .vector (r .withVector x v) ≡ v
+  -- in which order those who wait at one of its places stand
+  pub order : List R → Place → Bool
+  pub order-at : (s : State) (p : Place) → roomOf (p .side) ≡ tag → order (r .records s) p ≡ orderOf s (p .side) (p .number)
   -- how its own calls end
-  pub ends : (ws : List Waiter) (xs : List R) (t n : ℕ) (c : C) → Ends R ws xs t (isAt tag n) (SameBut (r .nothing) entry n xs) (r .begins t n c) (r .serves n c) (r .does ws xs t n c)
+  pub ends : (ts : List TaskEntry) (ws : List Waiter) (xs : List R) (t n : ℕ) (c : C)
+      → Ends R ts ws xs t (isAt tag n) (order xs) (SameBut (r .nothing) entry n xs) (r .begins t n c) (r .serves n c) (r .does ts ws xs t n c)
   -- the wait that a call begins is on its object, which is registered if the checks found it, and has a word only if it sends; a refused call serves nobody
   pub begun : (t n : ℕ) (c : C) → All (λ (e : Waiter). isAt tag n (e .place) ≡ true) (r .begins t n c)
   pub plain : (s : State) (t n : ℕ) → n ≢ 0 → n ≤ length (r .records s) → (c : C) → All (λ (e : Waiter). Plain e × Registered s e) (r .begins t n c)
   pub unserved : (n : ℕ) (e : Err) (c : C) → r .serves n c (error e) ≡ none
   -- a refer tells of tasks that wait
-  pub told-first : (ws : List Waiter) (xs : List R) (n m : ℕ) → ((p : Place) → firstTask (waitersIn ws p) ≤ m) → r .told ws xs n .first ≤ m
-  pub told-second : (ws : List Waiter) (xs : List R) (n m : ℕ) → ((p : Place) → firstTask (waitersIn ws p) ≤ m) → r .told ws xs n .second ≤ m
+  pub told-first : (ts : List TaskEntry) (ws : List Waiter) (xs : List R) (n m : ℕ) → ((b : Bool) (p : Place) → firstTask (standing b ts (waitersIn ws p)) ≤ m) → r .told ts ws xs n .first ≤ m
+  pub told-second : (ts : List TaskEntry) (ws : List Waiter) (xs : List R) (n m : ℕ) → ((b : Bool) (p : Place) → firstTask (standing b ts (waitersIn ws p)) ≤ m) → r .told ts ws xs n .second ≤ m
 
 -- ---- what holds of the room's own calls and of nothing asked holds of every act
 pub own-same : {A C : Type 0} (x : A) (f : C → A) → ((c : C) → f c ≡ x) → (a : Act C) → ofOwn x f a ≡ x
@@ -110,7 +114,7 @@ accepted-same x (error e) = refl
 -- the caller is a registered ready task
 pub record Calls (s : State) (t : ℕ) : Type 0 where
   pub caller : t ≢ 0
-  pub known : t ≤ length (s .fixed .domains)
+  pub known : t ≤ length (s .fixed .tasks)
   pub free : absent t (s .waits) ≡ true
 
 module _ {C R : Type 0} (r : Room C R) where
@@ -130,13 +134,13 @@ module _ {C R : Type 0} (r : Room C R) where
       let h₅ = passed-by (true-tells (slotsOf r s n a .numbers)) ePar _ (h₄ .1) in
       let h₆ = passed-by (true-tells (admits (domainAt s t) (patternOf (vectorAt r s n) (operationOf (r .operation) a)))) eOacv _ (h₅ .1) in
       let y : ready s t ≡ true = and-right (s .fixed .closed) (ready s t) (h₁ .0) in
-      let b : not (eqb t 0) && leb t (length (s .fixed .domains)) ≡ true = and-left (not (eqb t 0) && leb t (length (s .fixed .domains))) (absent t (s .waits)) y in
-      let l : leb t (length (s .fixed .domains)) ≡ true = and-right (not (eqb t 0)) (leb t (length (s .fixed .domains))) b in
+      let b : not (eqb t 0) && leb t (length (s .fixed .tasks)) ≡ true = and-left (not (eqb t 0) && leb t (length (s .fixed .tasks))) (absent t (s .waits)) y in
+      let l : leb t (length (s .fixed .tasks)) ≡ true = and-right (not (eqb t 0)) (leb t (length (s .fixed .tasks))) b in
       record {
         calls = record {
-          caller = λ e. no-both (and-left (not (eqb t 0)) (leb t (length (s .fixed .domains))) b) (rw e refl);
-          known = leb→le t (length (s .fixed .domains)) (rw l tt);
-          free = and-right (not (eqb t 0) && leb t (length (s .fixed .domains))) (absent t (s .waits)) y;
+          caller = λ e. no-both (and-left (not (eqb t 0)) (leb t (length (s .fixed .tasks))) b) (rw e refl);
+          known = leb→le t (length (s .fixed .tasks)) (rw l tt);
+          free = and-right (not (eqb t 0) && leb t (length (s .fixed .tasks))) (absent t (s .waits)) y;
         };
         numbered = λ e. no-both (and-left (not (eqb n 0)) (leb n (r .most)) (h₂ .0)) (rw e refl);
         there = leb→le n (length (r .records s)) (rw (h₄ .0) tt);
@@ -144,18 +148,18 @@ module _ {C R : Type 0} (r : Room C R) where
       }
 
 -- ---- every act, by the room's laws
-module _ {C R : Type 0} {r : Room C R} (l : RoomLaws r) (ws : List Waiter) (xs : List R) (t n : ℕ) where
-  own-keeps : (c : C) → SameBut (r .nothing) (l .entry) n xs (r .does ws xs t n c .records)
-  own-keeps c = keeps (same-all (r .nothing) (l .entry) n xs) (l .ends ws xs t n c)
+module _ {C R : Type 0} {r : Room C R} (l : RoomLaws r) (ts : List TaskEntry) (ws : List Waiter) (xs : List R) (t n : ℕ) where
+  own-keeps : (c : C) → SameBut (r .nothing) (l .entry) n xs (r .does ts ws xs t n c .records)
+  own-keeps c = keeps (same-all (r .nothing) (l .entry) n xs) (l .ends ts ws xs t n c)
 
   -- the frame: it leaves the wait queues of every other object alone
-  pub waits-apart : Distinct ws → (a : Act C) (p : Place) → isAt (l .tag) n p ≡ false → waitersIn (actOn r ws xs t n a .waits) p ≡ waitersIn ws p
-  waits-apart d (own c) p h = frame (l .ends ws xs t n c) d p h
+  pub waits-apart : Distinct ws → (a : Act C) (p : Place) → isAt (l .tag) n p ≡ false → waitersIn (actOn r ts ws xs t n a .waits) p ≡ waitersIn ws p
+  waits-apart d (own c) p h = frame (l .ends ts ws xs t n c) d p h
   waits-apart d refer p h = refl
   waits-apart d (setVector v) p h = refl
 
   -- its records differ at most under its own number, and there not in what the entry gave
-  pub stays : (a : Act C) → SameBut (r .nothing) (l .bare) n xs (actOn r ws xs t n a .records)
+  pub stays : (a : Act C) → SameBut (r .nothing) (l .bare) n xs (actOn r ts ws xs t n a .records)
   stays (own c) =
       let k = own-keeps c in
       record { other = k .other; entries = λ i. sym (l .bare-entry _) ∙ ap (l .bare) (k .entries i) ∙ l .bare-entry _; count = k .count }
@@ -163,16 +167,16 @@ module _ {C R : Type 0} {r : Room C R} (l : RoomLaws r) (ws : List Waiter) (xs :
   stays (setVector v) = same-put (r .nothing) (l .bare) n xs _ (l .bare-vector _ v)
 
   -- the vector of its object is the one that was set, if one was
-  pub vectors : (a : Act C) → n ≢ 0 → n ≤ length xs → r .vector (at (r .nothing) (actOn r ws xs t n a .records) n) ≡ vectorBy (some a) (actOn r ws xs t n a .answer .code) (r .vector (at (r .nothing) xs n))
+  pub vectors : (a : Act C) → n ≢ 0 → n ≤ length xs → r .vector (at (r .nothing) (actOn r ts ws xs t n a .records) n) ≡ vectorBy (some a) (actOn r ts ws xs t n a .answer .code) (r .vector (at (r .nothing) xs n))
   vectors (own c) h b =
       sym (l .vector-entry _) ∙ ap (r .vector) (own-keeps c .entries n) ∙ l .vector-entry _
-      ∙ sym (ok-same (r .vector (at (r .nothing) xs n)) (r .does ws xs t n c .answer .code))
+      ∙ sym (ok-same (r .vector (at (r .nothing) xs n)) (r .does ts ws xs t n c .answer .code))
   vectors refer h b = refl
   vectors (setVector v) h b = ap (r .vector) (at-put-same (r .nothing) xs n _ h b) ∙ l .vector-set _ v
 
   -- who passes the checks is not denied
-  pub act-not-denied : (a : Act C) → actOn r ws xs t n a .answer .code ≡ error eOacv → ⊥
-  act-not-denied (own c) q = not-denied (l .ends ws xs t n c) q
+  pub act-not-denied : (a : Act C) → actOn r ts ws xs t n a .answer .code ≡ error eOacv → ⊥
+  act-not-denied (own c) q = not-denied (l .ends ts ws xs t n c) q
   act-not-denied refer q = let z : _≡_ {A = ℕ} 0 1 = cc in omega arith
   act-not-denied (setVector v) q = let z : _≡_ {A = ℕ} 0 1 = cc in omega arith
 
@@ -188,7 +192,7 @@ module _ {C R D S : Type 0} (r : Room C R) (k : ℕ) {q : Room D S} (l : RoomLaw
   pub stranger : (n : ℤ) (a : Act D) → Stranger r k (onObject q n a)
   stranger n a = record {
     records = λ s t. apart s _ _;
-    waits = λ s t e p h. ap (λ (ws : List Waiter). waitersIn ws p) (l .waits-with s _ _) ∙ waits-apart l (s .waits) (q .records s) t (no n) e a p (other-room k (l .tag) (no n) p h d);
+    waits = λ s t e p h. ap (λ (ws : List Waiter). waitersIn ws p) (l .waits-with s _ _) ∙ waits-apart l (s .fixed .tasks) (s .waits) (q .records s) t (no n) e a p (other-room k (l .tag) (no n) p h d);
     begins = λ t. own-all (All (λ (e : Waiter). roomOf (e .place .side) ≢ k)) (q .begins t (no n)) tt (λ c. begun (q .begins t (no n) c) (l .begun t (no n) c)) a;
   }
     where

@@ -9,7 +9,7 @@ use lib.IntN.{ℤ}
 use Rattle.itron.specs.Codes.{eQovr, eTmout, ok, waiting}
 use Rattle.model.specs.State.{Vector, Waiter, State, place, onSem, semAt, no}
 use Rattle.model.specs.Answers.{Answer}
-use Rattle.model.specs.Waits.{Patience, polling, forever, waitersAt}
+use Rattle.model.specs.Waits.{Patience, polling, forever, waitQueue}
 use Rattle.model.specs.Acts.{own, refer, setVector}
 use Rattle.model.specs.Semaphores.{signal, acquire, signalBy, acquireBy}
 use Rattle.model.specs.Calls.{onSemaphore, call, step}
@@ -18,17 +18,17 @@ use Rattle.model.proofs.Answers.{Passes, answers, refuses, with, acts, 
 
 -- "With waiters, the first is released with E_OK .. Otherwise at max: E_QOVR. Otherwise count plus 1."
 module _ (s : State) (t n : ℤ) (p : Passes s t (onSemaphore n (own signal))) where
-  signal-by : (l : List Waiter) (full : Bool) → waitersAt s (place onSem (no n)) ≡ l → leb (semAt s (no n) .max) (semAt s (no n) .count) ≡ full
+  signal-by : (l : List Waiter) (full : Bool) → waitQueue s (place onSem (no n)) ≡ l → leb (semAt s (no n) .max) (semAt s (no n) .count) ≡ full
       → step s (call t (onSemaphore n (own signal))) .answer ≡ signalBy (s .waits) (s .sems) (no n) l full .answer
   signal-by l full h k = acts s t (onSemaphore n (own signal)) p ∙ (λ i. signalBy (s .waits) (s .sems) (no n) (h i) (k i) .answer)
 
-  pub signal-releases : (e : Waiter) (l : List Waiter) → waitersAt s (place onSem (no n)) ≡ e ∷ l → step s (call t (onSemaphore n (own signal))) .answer ≡ answers ok 0 (with e 0)
+  pub signal-releases : (e : Waiter) (l : List Waiter) → waitQueue s (place onSem (no n)) ≡ e ∷ l → step s (call t (onSemaphore n (own signal))) .answer ≡ answers ok 0 (with e 0)
   signal-releases e l h = signal-by (e ∷ l) _ h refl
 
-  pub signal-counts : waitersAt s (place onSem (no n)) ≡ [] → semAt s (no n) .count < semAt s (no n) .max → step s (call t (onSemaphore n (own signal))) .answer ≡ answers ok 0 []
+  pub signal-counts : waitQueue s (place onSem (no n)) ≡ [] → semAt s (no n) .count < semAt s (no n) .max → step s (call t (onSemaphore n (own signal))) .answer ≡ answers ok 0 []
   signal-counts h k = signal-by [] false h (fails (le-tells (semAt s (no n) .max) (semAt s (no n) .count)) (λ z. omega arith))
 
-  pub signal-at-max : waitersAt s (place onSem (no n)) ≡ [] → semAt s (no n) .max ≤ semAt s (no n) .count → step s (call t (onSemaphore n (own signal))) .answer ≡ refuses eQovr
+  pub signal-at-max : waitQueue s (place onSem (no n)) ≡ [] → semAt s (no n) .max ≤ semAt s (no n) .count → step s (call t (onSemaphore n (own signal))) .answer ≡ refuses eQovr
   signal-at-max h k = signal-by [] true h (holds (le-tells _ _) k)
 
 -- "Count above 0: minus 1, E_OK. Otherwise poll gives E_TMOUT; wait .. answers "waiting"."
@@ -55,6 +55,6 @@ set-semaphore-done s t n v p = acts s t (onSemaphore n (setVector v)) p
 
 -- "Semaphore: first waiter (0 if none), count, vector."
 pub refer-semaphore : (s : State) (t n : ℤ) → Passes s t (onSemaphore n refer)
-    → ReferTells (step s (call t (onSemaphore n refer)) .answer) (waitersAt s (place onSem (no n))) [] (semAt s (no n) .count) (semAt s (no n) .vector)
-refer-semaphore s t n p = subst (λ (a : Answer). ReferTells a (waitersAt s (place onSem (no n))) [] (semAt s (no n) .count) (semAt s (no n) .vector)) (sym (acts s t (onSemaphore n refer) p))
-    (record { code = refl; word = refl; released = refl; first = first (waitersAt s (place onSem (no n))); second = refl; counted = refl; patterns = refl })
+    → ReferTells (step s (call t (onSemaphore n refer)) .answer) (waitQueue s (place onSem (no n))) [] (semAt s (no n) .count) (semAt s (no n) .vector)
+refer-semaphore s t n p = subst (λ (a : Answer). ReferTells a (waitQueue s (place onSem (no n))) [] (semAt s (no n) .count) (semAt s (no n) .vector)) (sym (acts s t (onSemaphore n refer) p))
+    (record { code = refl; word = refl; released = refl; first = first (waitQueue s (place onSem (no n))); second = refl; counted = refl; patterns = refl })

@@ -8,17 +8,18 @@ use lib.ListN.{length}
 use borrow.Author.Tests.{leb-false}
 use Rattle.itron.specs.Codes.{Code}
 use Rattle.model.specs.Lists.{All}
-use Rattle.model.specs.State.{Sem, Waiter, onSem, State, place, noSem, semAt}
+use Rattle.model.specs.State.{TaskEntry, Sem, Waiter, onSem, State, place, noSem, semAt}
 use Rattle.model.specs.Answers.{whenOk}
-use Rattle.model.specs.Waits.{waitersIn}
+use Rattle.model.specs.Waits.{waitersIn, byPriority}
 use Rattle.model.specs.Acts.{Act, own, refer, setVector}
 use Rattle.model.specs.Rooms.{actOn}
-use Rattle.model.specs.Semaphores.{SemaphoreCall, semIn, setCount, room}
+use Rattle.model.specs.Semaphores.{SemaphoreCall, semIn, setCount, waitersOf, room}
 use Rattle.model.specs.SemaphoreClaims.{askedOf, bySemaphore, signals, grants, Counted}
 use Rattle.model.specs.Calls.{Op, onSemaphore, onQueue, Call, step}
 use Rattle.model.specs.Conditions.{SemEntryFits, Within, Spent}
 use Rattle.model.specs.History.{event, seenBy, vectorBy, after, history}
-use Rattle.model.proofs.Lists.{Distinct, at-put-same, at-put-keep, cons-ne}
+use Rattle.model.proofs.Lists.{Distinct, at-put-same, at-put-keep}
+use Rattle.model.proofs.Order.{standing-none, standing-first}
 use Rattle.model.proofs.Rooms.{is-at, stranger}
 use Rattle.model.proofs.Semaphores.{bare, laws, cover, counts}
 use Rattle.model.proofs.Queues as QueueRoom
@@ -50,16 +51,16 @@ pub count-law : (s : State) (i : ℕ) (c : Call)
 count-law s i c = sees room laws askedOf whose s i (λ m s′. semAt s′ i .count + grants m ≡ semAt s i .count + signals m) (record {
   refused = λ t a e. refl;
   elsewhere = λ t a s′ e f. unseen (semAt s i .count) (semAt s′ i .count) (a .code) (ap (λ (x : Sem). x .count) e);
-  here = λ t a p. counts (s .waits) (s .sems) t i (p .numbered) (p .there) a;
+  here = λ t a p. counts (s .fixed .tasks) (s .waits) (s .sems) t i (p .numbered) (p .there) a;
 }) c
 
 -- ---- a semaphore's count is at most its limit
-within-here : (ws : List Waiter) (xs : List Sem) (t i : ℕ) → i ≢ 0 → i ≤ length xs → semIn xs i .count ≤ semIn xs i .max → (a : Act SemaphoreCall)
-    → semIn (actOn room ws xs t i a .records) i .count ≤ semIn (actOn room ws xs t i a .records) i .max
-within-here ws xs t i h r w refer = w
-within-here ws xs t i h r w (setVector v) =
+within-here : (ts : List TaskEntry) (ws : List Waiter) (xs : List Sem) (t i : ℕ) → i ≢ 0 → i ≤ length xs → semIn xs i .count ≤ semIn xs i .max → (a : Act SemaphoreCall)
+    → semIn (actOn room ts ws xs t i a .records) i .count ≤ semIn (actOn room ts ws xs t i a .records) i .max
+within-here ts ws xs t i h r w refer = w
+within-here ts ws xs t i h r w (setVector v) =
     subst₂ (λ (a b : ℕ). a ≤ b) (sym (at-put-keep (λ (x : Sem). x .count) noSem xs i i _ refl)) (sym (at-put-keep (λ (x : Sem). x .max) noSem xs i i _ refl)) w
-within-here ws xs t i h r w (own c) = cover ws xs t i (λ c o. semIn (o .records) i .count ≤ semIn (o .records) i .max) (record {
+within-here ts ws xs t i h r w (own c) = cover ts ws xs t i (λ c o. semIn (o .records) i .count ≤ semIn (o .records) i .max) (record {
   signalWakes = λ e l q. w;
   signalFull = λ q u. w;
   signalCounts = λ q u. set (suc (semIn xs i .count)) (leb-false _ _ u);
@@ -75,7 +76,7 @@ pub within-step : (s : State) → Within s → (c : Call) → Within (step s c .
 within-step s w c i = sees room laws askedOf whose s i (λ m s′. semAt s′ i .count ≤ semAt s′ i .max) (record {
   refused = λ t a e. w i;
   elsewhere = λ t a s′ e f. subst (λ (x : Sem). x .count ≤ x .max) (sym e) (w i);
-  here = λ t a p. within-here (s .waits) (s .sems) t i (p .numbered) (p .there) (w i) a;
+  here = λ t a p. within-here (s .fixed .tasks) (s .waits) (s .sems) t i (p .numbered) (p .there) (w i) a;
 }) c
 
 -- ---- who waits on a semaphore finds its count at 0
@@ -87,7 +88,7 @@ spent-same ws us xs ys i w c (inl h) = inl (w ∙ h)
 spent-same ws us xs ys i w c (inr h) = inr (c ∙ h)
 
 -- the one that is called
-module _ (ws : List Waiter) (xs : List Sem) (t i : ℕ) (k : SpentIn ws xs i) where
+module _ (ts : List TaskEntry) (ws : List Waiter) (xs : List Sem) (t i : ℕ) (k : SpentIn ws xs i) where
   nobody : (m : ℕ) → semIn xs i .count ≡ suc m → waitersIn ws (place onSem i) ≡ []
   nobody m h = go k
     where
@@ -95,20 +96,20 @@ module _ (ws : List Waiter) (xs : List Sem) (t i : ℕ) (k : SpentIn ws xs i) wh
       go (inl e) = e
       go (inr e) = absurd (omega (arith, e, h))
 
-  zero-now : {e : Waiter} {l : List Waiter} → waitersIn ws (place onSem i) ≡ e ∷ l → semIn xs i .count ≡ 0
+  zero-now : {e : Waiter} {l : List Waiter} → waitersOf ts ws xs i ≡ e ∷ l → semIn xs i .count ≡ 0
   zero-now h = go k
     where
       go : SpentIn ws xs i → semIn xs i .count ≡ 0
-      go (inl z) = absurd (cons-ne h z)
+      go (inl z) = absurd (standing-first (byPriority (semIn xs i .attribute)) ts (waitersIn ws (place onSem i)) h z)
       go (inr z) = z
 
-  spent-here : (a : Act SemaphoreCall) → SpentIn (actOn room ws xs t i a .waits) (actOn room ws xs t i a .records) i
+  spent-here : (a : Act SemaphoreCall) → SpentIn (actOn room ts ws xs t i a .waits) (actOn room ts ws xs t i a .records) i
   spent-here refer = k
   spent-here (setVector v) = spent-same ws ws xs _ i refl (at-put-keep (λ (x : Sem). x .count) noSem xs i i _ refl) k
-  spent-here (own c) = cover ws xs t i (λ c o. SpentIn (o .waits) (o .records) i) (record {
+  spent-here (own c) = cover ts ws xs t i (λ c o. SpentIn (o .waits) (o .records) i) (record {
     signalWakes = λ e l h. inr (zero-now h);
     signalFull = λ h r. k;
-    signalCounts = λ h r. inl h;
+    signalCounts = λ h r. inl (standing-none (byPriority (semIn xs i .attribute)) ts (waitersIn ws (place onSem i)) h);
     acquires = λ p m h. inl (nobody m h);
     pollFails = λ h. k;
     acquireWaits = λ h. inr h;
@@ -118,7 +119,7 @@ pub spent-step : (s : State) → Distinct (s .waits) → ((i : ℕ) → Spent s 
 spent-step s d k i c = sees room laws askedOf whose s i (λ m s′. Spent s′ i) (record {
   refused = λ t a e. k i;
   elsewhere = λ t a s′ e f. spent-same (s .waits) (s′ .waits) (s .sems) (s′ .sems) i (f d (place onSem i) (is-at (laws .tag) i (place onSem i) refl refl)) (ap (λ (z : Sem). z .count) e) (k i);
-  here = λ t a p. spent-here (s .waits) (s .sems) t i (k i) a;
+  here = λ t a p. spent-here (s .fixed .tasks) (s .waits) (s .sems) t i (k i) a;
 }) c
 
 -- ---- the whole list

@@ -1,6 +1,6 @@
 -- The sends on one data queue: from what one call does to them to what holds after any list of calls. Assumes nothing.
 use mathlib.Core.Path.{_≡_, refl, sym, ap, _∙_, subst}
-use mathlib.Core.Bool.{Bool, true, false, cond}
+use mathlib.Core.Bool.{Bool, true, false, cond, not}
 use mathlib.Core.List.{List, [], _∷_, _++_, map, append-assoc, append-nil}
 use mathlib.Core.Option.{Option, none, some}
 use Prim.Native.Nat.{ℕ, suc, _+_, _≤_, _<_}
@@ -17,7 +17,7 @@ use Rattle.model.specs.Sends.{Sent, sendOf, wordOf, unforced, times, Bef
 use Rattle.model.specs.State.{Waiter}
 use Rattle.model.specs.QueueClaims.{Sender, senderOf, senderIn, wordsIn, HandsFirst, DropsOne}
 use Rattle.model.proofs.Tests.{holds, fails, le-tells}
-use Rattle.model.proofs.Lists.{eq-of, ne-of, eqb-same, eqb-no, keep-append, append-cancel, map-append, map-parts, all-keep, all-append, all-weaker}
+use Rattle.model.proofs.Lists.{eq-of, ne-of, eqb-same, eqb-no, keep-append, keep-comm, append-cancel, map-append, map-parts, all-keep, all-append, all-weaker}
 
 -- ---- how many are of one call
 abbrev ofCall : ℕ → Sent → Bool
@@ -197,34 +197,69 @@ accepted-once k (m ∷ h) = times-append k (accepted h) (accepts m h) ∙ go (eq
         omega (arith, subst (λ (n : ℕ). times n (accepted h) ≡ 0) (sym z) (times-newer (length h) (accepted h) (accepted-below h)), subst (λ (n : ℕ). times n (accepts m h) ≡ length (accepts m h)) (sym z) (times-same (length h) (accepts m h) (accepts-of m h .0)))
     go false e ih = omega (arith, ih, times-other k (length h) (accepts m h) (ne-of k (length h) e) (accepts-of m h .0))
 
--- ---- what one call does: which sends enter, wait, waited and are accepted
-pub data Line (enter wait waited accept : List Sent) : Type 0 where
-  -- those that waited go in turn, and who comes is the last
-  inTurn : enter ++ wait ≡ waited ++ accept → Line enter wait waited accept
+-- ---- what one call does: which sends enter, wait, waited and are accepted; in which line a task sends is told by `line`
+module _ (line : ℕ → ℕ) where
+  abbrev pub inLine : ℕ → Sent → Bool
+  inLine n x = eqb n (line (x .task))
+
+  pub record Line (enter wait waited accept : List Sent) : Type 0 where
+    -- each call's send is there as often before and after
+    pub counts : (k : ℕ) → times k enter + times k wait ≡ times k waited + times k accept
+    -- in each line those that waited go in turn, and who comes is the last, but for forced sends
+    pub keeps : (n : ℕ) → keep (inLine n) (keep unforced (enter ++ wait)) ≡ keep (inLine n) (keep unforced (waited ++ accept))
+
+  -- all go in turn
+  pub in-turn : {e w w′ a : List Sent} → e ++ w ≡ w′ ++ a → Line e w w′ a
+  in-turn {e} {w} {w′} {a} h = record {
+    counts = λ k. sym (times-append k e w) ∙ ap (times k) h ∙ times-append k w′ a;
+    keeps = λ n. ap (λ (l : List Sent). keep (inLine n) (keep unforced l)) h;
+  }
+
   -- a forced send passes those that wait
-  ahead : enter ≡ accept → wait ≡ waited → keep unforced accept ≡ [] → Line enter wait waited accept
+  pub ahead : {e w w′ a : List Sent} → e ≡ a → w ≡ w′ → keep unforced a ≡ [] → Line e w w′ a
+  ahead {e} {w} {w′} {a} p q f = record {
+    counts = λ k. omega (arith, ap (times k) p, ap (times k) q);
+    keeps = λ n. ap (keep (inLine n)) (
+        keep-append unforced e w
+        ∙ (λ i. keep unforced (p i) ++ keep unforced (q i))
+        ∙ (λ i. f i ++ keep unforced w′)
+        ∙ sym (append-nil (keep unforced w′))
+        ∙ ap (λ (l : List Sent). keep unforced w′ ++ l) (sym f)
+        ∙ sym (keep-append unforced w′ a)
+        );
+  }
 
-line-times : (k : ℕ) {e w w′ a : List Sent} → Line e w w′ a → times k e + times k w ≡ times k w′ + times k a
-line-times k {e} {w} {w′} {a} (inTurn h) = sym (times-append k e w) ∙ ap (times k) h ∙ times-append k w′ a
-line-times k (ahead p q f) = omega (arith, ap (times k) p, ap (times k) q)
+  -- of those that wait one leaves, which is the first of its line, and nobody comes
+  pub first-goes : (p : Sent → Bool) (x : Sent) (l : List Sent) → keep p l ≡ x ∷ [] → ((n : ℕ) → keep (inLine n) (x ∷ keep (λ (y : Sent). not (p y)) l) ≡ keep (inLine n) l)
+      → Line (keep p l) (keep (λ (y : Sent). not (p y)) l ++ []) l []
+  first-goes p x l e f = record {
+    counts = λ k. omega (arith, times-parts k p l, ap (times k) (append-nil (keep (λ (y : Sent). not (p y)) l)));
+    keeps = λ n.
+        ap (λ (m : List Sent). keep (inLine n) (keep unforced m)) ((λ i. e i ++ append-nil (keep (λ (y : Sent). not (p y)) l) i))
+        ∙ keep-comm (inLine n) unforced (x ∷ keep (λ (y : Sent). not (p y)) l)
+        ∙ ap (keep unforced) (f n)
+        ∙ sym (keep-comm (inLine n) unforced l)
+        ∙ ap (λ (m : List Sent). keep (inLine n) (keep unforced m)) (sym (append-nil l));
+  }
+    where
+      times-parts : (k : ℕ) (p : Sent → Bool) (l : List Sent) → times k (keep p l) + times k (keep (λ (y : Sent). not (p y)) l) ≡ times k l
+      times-parts k p [] = refl
+      times-parts k p (y ∷ l) = go (p y) (ofCall k y) refl (times-parts k p l)
+        where
+          go : (b c : Bool) → ofCall k y ≡ c → times k (keep p l) + times k (keep (λ (y : Sent). not (p y)) l) ≡ times k l
+              → times k (consIf b y (keep p l)) + times k (consIf (not b) y (keep (λ (y : Sent). not (p y)) l)) ≡ length (consIf c y (keep (ofCall k) l))
+          go true true h r = rw h (omega (arith, r))
+          go true false h r = rw h r
+          go false true h r = rw h (omega (arith, r))
+          go false false h r = rw h r
 
-line-keeps : {e w w′ a : List Sent} → Line e w w′ a → keep unforced (e ++ w) ≡ keep unforced (w′ ++ a)
-line-keeps (inTurn h) = ap (keep unforced) h
-line-keeps {e} {w} {w′} {a} (ahead p q f) =
-    keep-append unforced e w
-    ∙ (λ i. keep unforced (p i) ++ keep unforced (q i))
-    ∙ (λ i. f i ++ keep unforced w′)
-    ∙ sym (append-nil (keep unforced w′))
-    ∙ ap (λ (l : List Sent). keep unforced w′ ++ l) (sym f)
-    ∙ sym (keep-append unforced w′ a)
-
-module _ (c : ℕ) where
+module _ (c : ℕ) (line : ℕ → ℕ) where
   -- a call after the calls h, which leaves the buffer b′
   pub record Moves (m : Made QueueCall) (h : List (Made QueueCall)) (b′ : List ℕ) : Type 0 where
     -- what it hands out and what is in the buffer then are the words of those present
     pub flow : handed m ++ b′ ≡ map wordOf (present c (buffered c h) m h)
     pub one : DropsOne c m h
-    pub turn : Line (enters m h) (waitingSends (m ∷ h)) (waitingSends h) (accepts m h)
+    pub turn : Line line (enters m h) (waitingSends (m ∷ h)) (waitingSends h) (accepts m h)
 
   -- ---- what holds after the calls h, which left the buffer b
   pub record Held (h : List (Made QueueCall)) (b : List ℕ) : Type 0 where
@@ -232,23 +267,30 @@ module _ (c : ℕ) where
     pub handedAre : Each (HandsFirst c) h
     pub oneEach : Each (DropsOne c) h
     pub counted : (k : ℕ) → times k (entered h) + times k (waitingSends h) ≡ times k (accepted h)
-    pub kept : keep unforced (entered h ++ waitingSends h) ≡ keep unforced (accepted h)
+    pub kept : (n : ℕ) → keep (inLine line n) (keep unforced (entered h ++ waitingSends h)) ≡ keep (inLine line n) (keep unforced (accepted h))
 
   pub none-yet : Held [] []
-  none-yet = record { words = refl; handedAre = tt; oneEach = tt; counted = λ k. refl; kept = refl }
+  none-yet = record { words = refl; handedAre = tt; oneEach = tt; counted = λ k. refl; kept = λ n. refl }
 
   module _ (m : Made QueueCall) (h : List (Made QueueCall)) (b b′ : List ℕ) (i : Held h b) (f : Moves m h b′) where
-    kept-next : keep unforced (entered (m ∷ h) ++ waitingSends (m ∷ h)) ≡ keep unforced (accepted (m ∷ h))
-    kept-next =
+    -- the unforced sends of a line
+    abbrev row : ℕ → List Sent → List Sent
+    row n l = keep (inLine line n) (keep unforced l)
+
+    row-append : (n : ℕ) (l k : List Sent) → row n (l ++ k) ≡ row n l ++ row n k
+    row-append n l k = ap (keep (inLine line n)) (keep-append unforced l k) ∙ keep-append (inLine line n) (keep unforced l) (keep unforced k)
+
+    kept-next : (n : ℕ) → row n (entered (m ∷ h) ++ waitingSends (m ∷ h)) ≡ row n (accepted (m ∷ h))
+    kept-next n =
         let e = entered h in
-        ap (keep unforced) (append-assoc e (enters m h) (waitingSends (m ∷ h)))
-        ∙ keep-append unforced e (enters m h ++ waitingSends (m ∷ h))
-        ∙ ap (λ (k : List Sent). keep unforced e ++ k) (line-keeps (f .turn))
-        ∙ sym (keep-append unforced e (waitingSends h ++ accepts m h))
-        ∙ ap (keep unforced) (sym (append-assoc e (waitingSends h) (accepts m h)))
-        ∙ keep-append unforced (e ++ waitingSends h) (accepts m h)
-        ∙ ap (λ (k : List Sent). k ++ keep unforced (accepts m h)) (i .kept)
-        ∙ sym (keep-append unforced (accepted h) (accepts m h))
+        ap (row n) (append-assoc e (enters m h) (waitingSends (m ∷ h)))
+        ∙ row-append n e (enters m h ++ waitingSends (m ∷ h))
+        ∙ ap (λ (k : List Sent). row n e ++ k) (f .turn .keeps n)
+        ∙ sym (row-append n e (waitingSends h ++ accepts m h))
+        ∙ ap (row n) (sym (append-assoc e (waitingSends h) (accepts m h)))
+        ∙ row-append n (e ++ waitingSends h) (accepts m h)
+        ∙ ap (λ (k : List Sent). k ++ row n (accepts m h)) (i .kept n)
+        ∙ sym (row-append n (accepted h) (accepts m h))
 
     pub one-more : Held (m ∷ h) b′
     one-more =
@@ -257,7 +299,7 @@ module _ (c : ℕ) where
           words = p .1;
           handedAre = (p .0, i .handedAre);
           oneEach = (f .one, i .oneEach);
-          counted = λ k. omega (arith, i .counted k, times-append k (entered h) (enters m h), times-append k (accepted h) (accepts m h), line-times k (f .turn));
+          counted = λ k. omega (arith, i .counted k, times-append k (entered h) (enters m h), times-append k (accepted h) (accepts m h), f .turn .counts k);
           kept = kept-next;
         }
 
@@ -269,5 +311,5 @@ module _ (c : ℕ) where
       → times k (handedOut c h) + times k (dropped c h) + times k (buffered c h) + times k (waitingSends h) + times k (withdrawn h) ≡ acceptedOf k h
   all-placed h b i k = omega (arith, entered-placed c k h, i .counted k, accepted-once k h)
 
-  pub in-call-order : (h : List (Made QueueCall)) (b : List ℕ) → Held h b → Ascending (keep unforced (entered h ++ waitingSends h))
-  in-call-order h b i = subst Ascending (sym (i .kept)) (ascending-keep unforced (accepted h) (accepted-ascends h))
+  pub in-call-order : (h : List (Made QueueCall)) (b : List ℕ) → Held h b → (n : ℕ) → Ascending (keep (inLine line n) (keep unforced (entered h ++ waitingSends h)))
+  in-call-order h b i n = subst Ascending (sym (i .kept n)) (ascending-keep (inLine line n) (keep unforced (accepted h)) (ascending-keep unforced (accepted h) (accepted-ascends h)))

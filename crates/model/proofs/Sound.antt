@@ -20,9 +20,9 @@ use Rattle.model.proofs.Steps.{fixed-law}
 
 -- ---- the limits
 abbrev WaitsLaw : State → ℕ → Asks → Out → Type 0
-WaitsLaw s t x o = WaitsFit (s .fixed .domains) (o .state .waits)
+WaitsLaw s t x o = WaitsFit (s .fixed .tasks) (o .state .waits)
 
-waits-ends : (s : State) → WaitsFit (s .fixed .domains) (s .waits) → Endings s (WaitsLaw s)
+waits-ends : (s : State) → WaitsFit (s .fixed .tasks) (s .waits) → Endings s (WaitsLaw s)
 waits-ends s f = record {
   refused = λ t x e o. f;
   tells = λ t x r o. f;
@@ -33,7 +33,7 @@ waits-ends s f = record {
 
 pub fit-step : (s : State) (c : Call) → Fit s → Fit (step s c .state)
 fit-step s c f = record {
-  waits = subst (λ (x : Fixed). WaitsFit (x .domains) (step s c .state .waits)) (sym (fixed-law s c)) (ends s (WaitsLaw s) (waits-ends s (f .waits)) c);
+  waits = subst (λ (x : Fixed). WaitsFit (x .tasks) (step s c .state .waits)) (sym (fixed-law s c)) (ends s (WaitsLaw s) (waits-ends s (f .waits)) c);
   sems = rw (Semaphores.entries-law s c .1) (f .sems);
   queues = Queues.queues-step s (f .queues) c;
   regions = subst (λ (x : Fixed). RegionsFit (x .regions)) (sym (fixed-law s c)) (f .regions);

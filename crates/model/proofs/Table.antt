@@ -12,12 +12,12 @@ use lib.IntN.{ℤ, pos, negsuc}
 use borrow.Author.Tests.{leb-true}
 use Rattle.itron.specs.Codes.{Err, ok, error}
 use Rattle.model.specs.Answers.{refuseIf}
-use Rattle.model.specs.Conditions.{BufferFits, Bounded, Ascending, Whole, TaskOwner, SemEntryFits, QueueEntryFits, RegionEntryFits, Spent, NoWords, QueueOk, qviewOf, Sound}
+use Rattle.model.specs.Conditions.{BufferFits, Bounded, Ascending, Whole, TaskEntryFits, SemEntryFits, QueueEntryFits, RegionEntryFits, Spent, NoWords, QueueOk, qviewOf, Sound}
 use Rattle.model.specs.Lists.{at}
 use Rattle.model.specs.Semaphores.{newSem}
 use Rattle.model.specs.Queues.{wordsUsed, newQueue}
 use Rattle.model.specs.State.{Sem, Queue, Region, State, noSem, place}
-use Rattle.model.specs.Table.{Entry, task, sem, queue, region, testsOf, checkEntry, add, enterBy, enter, emptyState, freshBy, fresh, closeBy, close}
+use Rattle.model.specs.Table.{Entry, task, sem, queue, region, testsOf, checkEntry, newTask, add, enterBy, enter, emptyState, freshBy, fresh, closeBy, close}
 use Rattle.itron.specs.Limits.{maxWords, maxDomains, minUnit}
 use Rattle.model.specs.Regions.{lastEnd, newRegion}
 use Rattle.model.specs.Units.{unitOk}
@@ -84,16 +84,18 @@ ascending-snoc (x ∷ []) r a h = (h, tt)
 ascending-snoc (x ∷ (y ∷ l)) r a h = (a .0, ascending-snoc (y ∷ l) r (a .1) h)
 
 sound-add : (s : State) (i : Entry) → Sound s → Taken s i → Sound (add s i)
-sound-add s (task d) k t =
+sound-add s (task d p) k t =
     let w = k .quiet (t .opened) in
     let f = k .fit in
     let e = k .entries in
-    let g = told s (task d) in
+    let g = told s (task d p) in
     let r = g .room .yes (t .room) in
-    let a = length-append (s .fixed .domains) (d ∷ []) in
+    let b = g .numbers .yes (t .numbers) in
+    let x = newTask d p in
+    let a = length-append (s .fixed .tasks) (x ∷ []) in
     record {
       fit = record { waits = record { tasks = omega arith; distinct = f .waits .distinct; known = rw w tt; plain = f .waits .plain }; sems = f .sems; queues = f .queues; regions = f .regions };
-      entries = record { domains = e .domains; tasks = all-snoc (TaskOwner (s .fixed .count)) (s .fixed .domains) d (e .tasks) (g .owned .yes (t .owner)); sems = e .sems; queues = e .queues; regions = e .regions };
+      entries = record { domains = e .domains; tasks = all-snoc (TaskEntryFits (s .fixed .count)) (s .fixed .tasks) x (e .tasks) (g .owned .yes (t .owner), b .0, b .1); sems = e .sems; queues = e .queues; regions = e .regions };
       registered = rw w tt;
       within = k .within;
       spent = k .spent;

@@ -1,4 +1,4 @@
--- A task that waits with k tasks ahead is released by the (k+1)th accepted call of the opposite kind on its object
+-- Where those who wait stand as they came, a task that waits with k tasks ahead is released by the (k+1)th accepted call of the opposite kind on its object
 use mathlib.Core.Path.{_≡_, refl, sym, ap, _∙_}
 use mathlib.Core.Logic.{_⊎_, inl, inr}
 use mathlib.Core.Bool.{Bool, true, false}
@@ -11,18 +11,34 @@ use lib.ListN.{length, drop, length-drop}
 use lib.Seq.{drop-drop, drop-length}
 use Rattle.itron.specs.Codes.{ok, waiting, error}
 use Rattle.model.specs.Lists.{consIf, total}
-use Rattle.model.specs.State.{Place, Waiter, State, setWaits, samePlace}
+use Rattle.model.specs.State.{Place, Waiter, State, Side, onSem, receiving, sending, Sem, Queue, setWaits, samePlace}
 use Rattle.model.specs.Answers.{Answer, Out, say, tells}
-use Rattle.model.specs.Waits.{standsAt, waitersIn, waitersAt, leave, join, freed}
+use Rattle.model.specs.Waits.{standsAt, waitersIn, waitersAt, byPriority, standing, orderOf, waitQueue, leave, join, freed}
 use Rattle.model.specs.Rooms.{Asks}
 use Rattle.model.specs.Calls.{Call, step}
 use Rattle.model.specs.History.{event, after, history}
-use Rattle.model.specs.Turns.{countIf, countAt, serves, tasksOf, InTurn}
+use Rattle.model.specs.Turns.{countIf, countAt, serves, tasksOf, FirstCome, InTurn}
 use Rattle.model.proofs.Lists.{keep-append, Distinct, cons-ne}
 use Rattle.model.proofs.WaitQueues.{place-of, leave-here, leave-elsewhere}
 use Rattle.model.proofs.Endings.{Vacant}
 use Rattle.model.proofs.Cover.{Endings, ends}
 use Rattle.model.proofs.Steps.{distinct-after}
+use Rattle.model.proofs.SemaphoreClaims as Semaphores
+use Rattle.model.proofs.QueueClaims as Queues
+
+-- ---- no call changes the order at a place
+order-law : (s : State) (c : Call) (d : Side) (n : ℕ) → orderOf (step s c .state) d n ≡ orderOf s d n
+order-law s c onSem n = ap (λ (x : Sem). byPriority (x .attribute)) (Semaphores.entries-law s c .0 n)
+order-law s c receiving n = refl
+order-law s c sending n = ap (λ (x : Queue). byPriority (x .attribute)) (Queues.entries-law s c .0 n)
+
+first-come-after : (s : State) (p : Place) → FirstCome s p → (cs : List Call) → FirstCome (after s cs) p
+unfolding after
+first-come-after s p f [] = f
+first-come-after s p f (c ∷ cs) = order-law (after s cs) c (p .side) (p .number) ∙ first-come-after s p f cs
+
+as-they-came : (s : State) (p : Place) → FirstCome s p → waitQueue s p ≡ waitersAt s p
+as-they-came s p f = ap (λ (b : Bool). standing b (s .fixed .tasks) (waitersAt s p)) f
 
 -- ---- one call
 abbrev Turn : State → Place → Waiter → List Waiter → State → Answer → ℕ → Type 0
@@ -33,7 +49,7 @@ Turn s p x l s′ a n =
 abbrev TurnLaw : State → Place → ℕ → Asks → Out → Type 0
 TurnLaw s p t y o = (x : Waiter) (l : List Waiter) → waitersAt s p ≡ x ∷ l → Turn s p x l (o .state) (o .answer) (countAt p (y .serves (o .answer .code)))
 
-module _ (s : State) (d : Distinct (s .waits)) (p : Place) where
+module _ (s : State) (d : Distinct (s .waits)) (p : Place) (u : FirstCome s p) where
   -- the waiters stay
   same : (s′ : State) (a : Answer) (x : Waiter) (l : List Waiter) → waitersAt s′ p ≡ waitersAt s p → waitersAt s p ≡ x ∷ l → Turn s p x l s′ a 0
   same s′ a x l e h = inr (refl, ([], e ∙ h ∙ sym (append-nil (x ∷ l))))
@@ -48,18 +64,18 @@ module _ (s : State) (d : Distinct (s .waits)) (p : Place) where
       go false f = same s′ a x l e h
 
   -- the first at the place served is released
-  first : (s′ : State) (a : Answer) (r : Place) (e : Waiter) (k : List Waiter) (x : Waiter) (l : List Waiter) → waitersAt s r ≡ e ∷ k
+  first : (s′ : State) (a : Answer) (r : Place) (e : Waiter) (k : List Waiter) (x : Waiter) (l : List Waiter) → waitQueue s r ≡ e ∷ k
       → waitersAt s′ p ≡ waitersIn (leave (e .task) (s .waits)) p → tasksOf (a .released) ≡ e .task ∷ [] → waitersAt s p ≡ x ∷ l
       → Turn s p x l s′ a (countIf (samePlace p r))
-  first s′ a r e k x l f u g h = go (samePlace p r) refl
+  first s′ a r e k x l f v g h = go (samePlace p r) refl
     where
       go : (b : Bool) → samePlace p r ≡ b → Turn s p x l s′ a (countIf b)
       go true j =
-          let z : x ∷ l ≡ e ∷ k = sym h ∙ ap (waitersAt s) (sym (place-of p r j)) ∙ f in
+          let z : x ∷ l ≡ e ∷ k = sym h ∙ sym (as-they-came s p u) ∙ ap (waitQueue s) (sym (place-of p r j)) ∙ f in
           let zx : x ≡ e = cc in
           let zl : k ≡ l = cc in
-          inl (refl, u ∙ leave-here (s .waits) p d (h ∙ z) ∙ zl, g ∙ ap (λ (y : Waiter). y .task ∷ []) (sym zx))
-      go false j = same s′ a x l (u ∙ leave-elsewhere (s .waits) r p d j f) h
+          inl (refl, v ∙ leave-here (s .waits) false (s .fixed .tasks) p d (h ∙ z) ∙ zl, g ∙ ap (λ (y : Waiter). y .task ∷ []) (sym zx))
+      go false j = same s′ a x l (v ∙ leave-elsewhere (s .waits) (orderOf s (r .side) (r .number)) (s .fixed .tasks) r d f p j) h
 
   -- another joins, somewhere, and the place served, if any, is empty
   joins : (e : Waiter) (a : Answer) (x : Waiter) (l : List Waiter) → waitersAt s p ≡ x ∷ l → Turn s p x l (setWaits s (join e (s .waits))) a 0
@@ -79,14 +95,14 @@ module _ (s : State) (d : Distinct (s .waits)) (p : Place) where
     tells = λ t y r o x l h. rw o (same s (tells (y .told s)) x l refl h);
     gives = λ t y s′ w k v x l h. vacant s′ (say ok w []) (y .serves ok) x l v (ap (λ (ws : List Waiter). waitersIn ws p) (k .waits)) h;
     wakes = λ t y s′ r e m w z k v f x l h. rw v (first s′ (say ok w (freed e z)) r e m x l f (ap (λ (ws : List Waiter). waitersIn ws p) (k .waits)) refl h);
-    waits = λ t y e c u z f b v x l h. vacant-joins e (say waiting 0 []) (y .serves waiting) x l v h;
+    waits = λ t y e c i z f b v x l h. vacant-joins e (say waiting 0 []) (y .serves waiting) x l v h;
   }
 
   pub turn-law : (c : Call) (x : Waiter) (l : List Waiter) → waitersAt s p ≡ x ∷ l → Turn s p x l (step s c .state) (step s c .answer) (serves p (event s c))
   turn-law c = ends s (TurnLaw s p) turn-ends c
 
 -- ---- the whole list
-module _ (s : State) (d : Distinct (s .waits)) (p : Place) (e : Waiter) (ahead behind : List Waiter) (h : waitersAt s p ≡ ahead ++ e ∷ behind) where
+module _ (s : State) (d : Distinct (s .waits)) (p : Place) (u : FirstCome s p) (e : Waiter) (ahead behind : List Waiter) (h : waitersAt s p ≡ ahead ++ e ∷ behind) where
   abbrev Stands : State → ℕ → Type 0
   Stands s′ k = (m : List Waiter) × (waitersAt s′ p ≡ drop k ahead ++ e ∷ m)
 
@@ -111,11 +127,11 @@ module _ (s : State) (d : Distinct (s .waits)) (p : Place) (e : Waiter) (ahead b
   still [] r = (behind, h)
   still (c ∷ cs) r =
       let i = still cs (omega arith) in
-      move (after s cs) (step (after s cs) c .state) (step (after s cs) c .answer) (total (serves p) (history s cs)) (serves p (event (after s cs) c)) _ refl (i .0) (i .1) r (turn-law (after s cs) (distinct-after s d cs) p c)
+      move (after s cs) (step (after s cs) c .state) (step (after s cs) c .answer) (total (serves p) (history s cs)) (serves p (event (after s cs) c)) _ refl (i .0) (i .1) r (turn-law (after s cs) (distinct-after s d cs) p (first-come-after s p u cs) c)
 
   served : (cs : List Call) (c : Call) → total (serves p) (history s cs) ≡ length ahead → serves p (event (after s cs) c) ≡ 1
       → tasksOf (event (after s cs) c .answer .released) ≡ e .task ∷ []
-  served cs c r o = go (turn-law (after s cs) (distinct-after s d cs) p c e (i .0) (i .1 ∙ ap (λ (l : List Waiter). l ++ e ∷ i .0) none-left))
+  served cs c r o = go (turn-law (after s cs) (distinct-after s d cs) p (first-come-after s p u cs) c e (i .0) (i .1 ∙ ap (λ (l : List Waiter). l ++ e ∷ i .0) none-left))
     where
       i : Stands (after s cs) (total (serves p) (history s cs))
       i = still cs (omega arith)

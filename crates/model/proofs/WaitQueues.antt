@@ -6,9 +6,10 @@ use mathlib.Core.List.{List, [], _∷_, _++_, append-nil}
 use Prim.Native.Nat.{ℕ, zero, suc}
 use lib.Dec.{eqb}
 use Rattle.model.specs.Lists.{consIf}
-use Rattle.model.specs.State.{Waiter, Place, Side, onSem, receiving, sending, place, sideNumber, sameSide, samePlace}
-use Rattle.model.specs.Waits.{standsAt, waitersIn, leave, join}
-use Rattle.model.proofs.Lists.{eq-of, and-left, and-right, both, eqb-same, eqb-no, keep-append, Distinct, leave-same, leave-other}
+use Rattle.model.specs.State.{TaskEntry, Waiter, Place, Side, onSem, receiving, sending, place, sideNumber, sameSide, samePlace}
+use Rattle.model.specs.Waits.{standsAt, isOther, waitersIn, standing, leave, join}
+use Rattle.model.proofs.Lists.{eq-of, and-left, and-right, both, eqb-same, eqb-no, keep-append, keep-comm, Distinct, distinct-keep, leave-other}
+use Rattle.model.proofs.Order.{standing-leaves, standing-came}
 
 -- ---- places
 abbrev sideAt : ℕ → Side
@@ -41,11 +42,13 @@ alike p = both (eqb-same (sideNumber (p .side))) (eqb-same (p .number))
 
 -- ---- leaving and joining
 module _ (ws : List Waiter) where
-  pub leave-here : (p : Place) {e : Waiter} {l : List Waiter} → Distinct ws → waitersIn ws p ≡ e ∷ l → waitersIn (leave (e .task) ws) p ≡ l
-  leave-here p d h = leave-same (standsAt p) ws d h
+  -- the first at a place, in either order
+  module _ (b : Bool) (ts : List TaskEntry) (p : Place) {e : Waiter} {l : List Waiter} (d : Distinct ws) (h : standing b ts (waitersIn ws p) ≡ e ∷ l) where
+    pub leave-here : standing b ts (waitersIn (leave (e .task) ws) p) ≡ l
+    leave-here = ap (standing b ts) (keep-comm (standsAt p) (isOther (e .task)) ws) ∙ standing-leaves b ts (waitersIn ws p) (distinct-keep (standsAt p) ws d) h
 
-  pub leave-elsewhere : (p r : Place) {e : Waiter} {l : List Waiter} → Distinct ws → samePlace r p ≡ false → waitersIn ws p ≡ e ∷ l → waitersIn (leave (e .task) ws) r ≡ waitersIn ws r
-  leave-elsewhere p r d a h = leave-other (standsAt p) (standsAt r) ws d (apart p r a) h
+    pub leave-elsewhere : (r : Place) → samePlace r p ≡ false → waitersIn (leave (e .task) ws) r ≡ waitersIn ws r
+    leave-elsewhere r a = leave-other (standsAt p) (standsAt r) ws e d (apart p r a) (standing-came b ts (waitersIn ws p) h)
 
   pub join-here : (e : Waiter) (p : Place) → standsAt p e ≡ true → waitersIn (join e ws) p ≡ waitersIn ws p ++ (e ∷ [])
   join-here e p h = keep-append (standsAt p) ws (e ∷ []) ∙ ap (λ (b : Bool). waitersIn ws p ++ consIf b e []) h
