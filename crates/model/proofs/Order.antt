@@ -98,6 +98,18 @@ module _ {A : Type 0} (rank : A → ℕ) where
   all-arrange P [] h = tt
   all-arrange P (x ∷ l) h = all-insert P x (arrange rank l) (h .0) (all-arrange P l (h .1))
 
+  all-arranged : (P : A → Type 0) (l : List A) → All P (arrange rank l) → All P l
+  all-arranged P [] h = tt
+  all-arranged P (x ∷ l) h = let k = put-in x (arrange rank l) h in (k .0, all-arranged P l (k .1))
+    where
+      put-in : (x : A) (l : List A) → All P (insert rank x l) → P x × All P l
+      put-in x [] h = h
+      put-in x (y ∷ l) h = go (leb (rank x) (rank y)) h (put-in x l)
+        where
+          go : (b : Bool) → All P (cond b (x ∷ (y ∷ l)) (y ∷ insert rank x l)) → (All P (insert rank x l) → P x × All P l) → P x × All P (y ∷ l)
+          go true k i = k
+          go false k i = let r = i (k .1) in (r .0, (k .0, r .1))
+
   some-arrange : (P : A → Type 0) (l : List A) → Some P (arrange rank l) → Some P l
   some-arrange P [] h = h
   some-arrange P (x ∷ l) h = go (some-arrange P l) (some-insert P x (arrange rank l) h)
@@ -220,6 +232,16 @@ standing-rises false ts (x ∷ l) = (zeros l, standing-rises false ts l)
 pub standing-all : (b : Bool) (ts : List TaskEntry) (P : Waiter → Type 0) (l : List Waiter) → All P l → All P (standing b ts l)
 standing-all true ts P l h = all-arrange (priorityIn ts) P l h
 standing-all false ts P l h = h
+
+-- who stands first is in the most urgent line
+pub standing-least : (b : Bool) (ts : List TaskEntry) (l : List Waiter) {e : Waiter} {r : List Waiter} → standing b ts l ≡ e ∷ r → All (λ (y : Waiter). lineIn b ts e ≤ lineIn b ts y) l
+standing-least true ts l {e} {r} h = all-arranged (priorityIn ts) (λ (y : Waiter). priorityIn ts e ≤ priorityIn ts y) l
+    (subst (All (λ (y : Waiter). priorityIn ts e ≤ priorityIn ts y)) (sym h) (omega arith, subst (Ranked (priorityIn ts)) h (ranked-arrange (priorityIn ts) l) .0))
+standing-least false ts l h = everywhere l
+  where
+    everywhere : (m : List Waiter) → All (λ (y : Waiter). 0 ≤ 0) m
+    everywhere [] = tt
+    everywhere (y ∷ m) = (omega arith, everywhere m)
 
 -- nobody is left out, and who stands there came
 pub standing-none : (b : Bool) (ts : List TaskEntry) (l : List Waiter) → standing b ts l ≡ [] → l ≡ []

@@ -10,7 +10,7 @@ use lib.Dec.{eqb, ltb}
 use lib.ListN.{length, take, drop, length-map}
 use borrow.Author.Tests.{ltb-true, ltb-false}
 use Rattle.itron.specs.Codes.{Err, eIluse, eTmout, Code, ok, waiting, error}
-use Rattle.model.specs.Lists.{at, keep, consIf}
+use Rattle.model.specs.Lists.{All, at, keep, consIf}
 use Rattle.model.specs.State.{TaskEntry, Queue, Waiter, receiving, sending, place, noTask, noQueue}
 use Rattle.model.specs.Answers.{Answer, Effect, say, tells, whenWaiting}
 use Rattle.model.specs.Waits.{Patience, polling, forever, standsAt, isOther, absent, waitersIn, byPriority, freed}
@@ -19,9 +19,9 @@ use Rattle.model.specs.Rooms.{actOn}
 use Rattle.model.specs.Queues.{QueueCall, send, receive, forcedSend, queueIn, setBuffer, sendersOf, does, told, room}
 use Rattle.model.specs.History.{Made}
 use Rattle.model.specs.Sends.{Sent, sentAs, wordOf, shown, notShown, waitingSends, accepts, enters, handed, findsFull, buffered}
-use Rattle.model.specs.QueueClaims.{Sender, senderOf, senderIn}
-use Rattle.model.proofs.Lists.{Distinct, cons-ne, no-both, eq-of, eqb-same, eqb-no, and-left, and-right, at-put-same, at-put-keep, keep-comm, keep-within, keep-whole, map-append, map-keep, map-parts, absent-keep, distinct-keep}
-use Rattle.model.proofs.Order.{standing-none, standing-line, standing-distinct}
+use Rattle.model.specs.QueueClaims.{Sender, senderOf, senderIn, FreesFirst}
+use Rattle.model.proofs.Lists.{Distinct, cons-ne, no-both, eq-of, eqb-same, eqb-no, and-left, and-right, at-put-same, at-put-keep, keep-comm, keep-within, keep-whole, keep-rest, map-append, map-keep, map-parts, absent-keep, distinct-keep}
+use Rattle.model.proofs.Order.{standing-none, standing-line, standing-least, standing-distinct}
 use Rattle.model.proofs.Rooms.{ok-same, accepted-same}
 use Rattle.model.proofs.Queues.{QueueOk, viewIn, cover, empty, unheld}
 use Rattle.model.proofs.Sends.{finds-room, finds-full, inLine, Line, in-turn, ahead, first-goes, Moves}
@@ -39,11 +39,19 @@ none-shown (x ∷ l) = ap (λ (m : List Sent). x ∷ m) (none-shown l)
 waits-on : (l : List Sent) → keep (notShown []) l ++ [] ≡ l
 waits-on l = append-nil (keep (notShown []) l) ∙ none-shown l
 
+none-freed : (l : List Sent) → keep (shown []) l ≡ []
+none-freed [] = refl
+none-freed (x ∷ l) = none-freed l
+
+-- who frees nobody frees nobody before another
+frees-none : (line : ℕ → ℕ) (m : Made QueueCall) (h : List (Made QueueCall)) → keep (shown (m .answer .released)) (waitingSends h) ≡ [] → FreesFirst line m h
+frees-none line m h e = subst (All (λ (y : Sent). All (λ (z : Sent). line (y .task) ≤ line (z .task)) (waitingSends h))) (sym e) tt
+
 as-many : (x : List Waiter) (l : List Sent) → map senderOf x ≡ map senderIn l → length x ≡ length l
 as-many x l h = sym (length-map x senderOf) ∙ ap length h ∙ length-map l senderIn
 
 -- the first of a wait queue is released: its send is the first of its line among those that waited
-module _ (line : ℕ → ℕ) (e : Waiter) (x a : List Waiter) (v : ℕ) (l : List Sent) (then : map senderOf a ≡ map senderIn l) (once : absent (e .task) x ≡ true)
+module _ (line : ℕ → ℕ) (e : Waiter) (x a : List Waiter) (v : ℕ) (l : List Sent) (then : map senderOf a ≡ map senderIn l) (once : absent (e .task) x ≡ true) (least : All (λ (y : Waiter). line (e .task) ≤ line (y .task)) a)
     (lines : (n : ℕ) → keep (λ (y : Waiter). eqb n (line (y .task))) (e ∷ x) ≡ keep (λ (y : Waiter). eqb n (line (y .task))) a) where
   -- the line in which it sent
   abbrev its : ℕ
@@ -83,10 +91,17 @@ module _ (line : ℕ → ℕ) (e : Waiter) (x a : List Waiter) (v : ℕ) (l : Li
       go true f o r = absurd (no-both o refl)
       go false f o r = (ap (λ (k : List Sent). y ∷ k) (r .0), r .1)
 
+  -- what is true of the tasks that wait is true of their sends
+  by-tasks : (z : List Waiter) (m : List Sent) → map senderOf z ≡ map senderIn m → All (λ (y : Waiter). its ≤ line (y .task)) z → All (λ (y : Sent). its ≤ line (y .task)) m
+  by-tasks z [] h k = tt
+  by-tasks [] (y ∷ m) h k = absurd (cons-ne refl (sym h))
+  by-tasks (u ∷ z) (y ∷ m) h k = (subst (λ (w : Sender). its ≤ line (w .task)) (head-eq-of-cons-eq h) (k .0), by-tasks z m (tail-eq-of-cons-eq h) (k .1))
+
   pub record Freed : Type 0 where
     pub send : Sent
     pub word : send .word ≡ e .word
     pub alone : keep (shown (freed e v)) l ≡ send ∷ []
+    pub urgent : All (λ (z : Sent). line (send .task) ≤ line (z .task)) l
     pub first : (n : ℕ) → keep (inLine line n) (send ∷ keep (notShown (freed e v)) l) ≡ keep (inLine line n) l
 
   pub first-freed : Freed
@@ -98,6 +113,7 @@ module _ (line : ℕ → ℕ) (e : Waiter) (x a : List Waiter) (v : ℕ) (l : Li
         send = s;
         word = ap (λ (y : Sender). y .word) (sym same);
         alone = sym (keep-within (shown (freed e v)) (inLine line its) shown-line l) ∙ ap (keep (shown (freed e v))) f ∙ rw is-shown (ap (λ (k : List Sent). s ∷ k) (rest .1));
+        urgent = subst (λ (t : ℕ). All (λ (z : Sent). line t ≤ line (z .task)) l) (ap (λ (y : Sender). y .task) same) (by-tasks a l then least);
         first = λ n. by n (eqb n its) refl;
       }
         where
@@ -127,8 +143,8 @@ module _ (line : ℕ → ℕ) (e : Waiter) (x a : List Waiter) (v : ℕ) (l : Li
 module _ (line : ℕ → ℕ) (c : ℕ) (h : List (Made QueueCall)) (b : List ℕ) (words : b ≡ map wordOf (buffered c h)) where
   -- a call that drops nothing
   module _ (m : Made QueueCall) (b′ : List ℕ) (z : findsFull c (buffered c h) m ≡ 0) where
-    moves : handed m ++ b′ ≡ b ++ map wordOf (enters m h) → Line line (enters m h) (waitingSends (m ∷ h)) (waitingSends h) (accepts m h) → Moves c line m h b′
-    moves f t = record {
+    moves : handed m ++ b′ ≡ b ++ map wordOf (enters m h) → Line line (enters m h) (waitingSends (m ∷ h)) (waitingSends h) (accepts m h) → FreesFirst line m h → Moves c line m h b′
+    moves f t u = record {
       flow =
           f
           ∙ ap (λ (l : List ℕ). l ++ map wordOf (enters m h)) words
@@ -136,22 +152,24 @@ module _ (line : ℕ → ℕ) (c : ℕ) (h : List (Made QueueCall)) (b : List �
           ∙ ap (λ (n : ℕ). map wordOf (drop n (buffered c h) ++ enters m h)) (sym z);
       one = subst (λ (n : ℕ). length (take n (buffered c h)) ≡ n) (sym z) refl;
       turn = t;
+      urgent = u;
     }
 
     -- and lets nothing enter or leave
-    pub moves-none : handed m ≡ [] → enters m h ≡ [] → accepts m h ≡ [] → waitingSends (m ∷ h) ≡ waitingSends h → b′ ≡ b → Moves c line m h b′
-    moves-none g e a w s = moves
+    pub moves-none : handed m ≡ [] → enters m h ≡ [] → accepts m h ≡ [] → waitingSends (m ∷ h) ≡ waitingSends h → keep (shown (m .answer .released)) (waitingSends h) ≡ [] → b′ ≡ b → Moves c line m h b′
+    moves-none g e a w n s = moves
         (ap (λ (l : List ℕ). l ++ b′) g ∙ s ∙ sym (append-nil b) ∙ ap (λ (l : List Sent). b ++ map wordOf l) (sym e))
         (in-turn line ((λ i. e i ++ w i) ∙ sym (append-nil (waitingSends h)) ∙ ap (λ (l : List Sent). waitingSends h ++ l) (sym a)))
+        (frees-none line m h n)
 
   -- a call that is refused
   pub refused-moves : (t : ℕ) (a : Option (Act QueueCall)) (e : Err) → Moves c line (record { caller = t; asked = a; answer = say (error e) 0 [] }) h b
-  refused-moves t a e = moves-none (record { caller = t; asked = a; answer = say (error e) 0 [] }) b refl refl refl refl (waits-on (waitingSends h)) refl
+  refused-moves t a e = moves-none (record { caller = t; asked = a; answer = say (error e) 0 [] }) b refl refl refl refl (waits-on (waitingSends h)) (none-freed (waitingSends h)) refl
 
   -- a call on another object, which leaves this queue's buffer and senders as they were
   pub elsewhere-moves : (t : ℕ) (a : Answer) (x : List Waiter) (b′ : List ℕ) → map senderOf x ≡ map senderIn (waitingSends h) → map senderOf x ≡ map senderIn (waitingSends (record { caller = t; asked = none; answer = a } ∷ h)) → b′ ≡ b
       → Moves c line (record { caller = t; asked = none; answer = a }) h b′
-  elsewhere-moves t a x b′ then now s = moves-none m b′ (accepted-same 0 (a .code)) (ok-same {A = List ℕ} [] (a .code)) (ok-same {A = List Sent} [] (a .code)) (accepted-same {A = List Sent} [] (a .code)) waits s
+  elsewhere-moves t a x b′ then now s = moves-none m b′ (accepted-same 0 (a .code)) (ok-same {A = List ℕ} [] (a .code)) (ok-same {A = List Sent} [] (a .code)) (accepted-same {A = List Sent} [] (a .code)) waits (keep-rest (shown (a .released)) (waitingSends h) (ap length (sym whole) ∙ ap length waits)) s
     where
       m : Made QueueCall
       m = record { caller = t; asked = none; answer = a }
@@ -171,6 +189,7 @@ module _ (line : ℕ → ℕ) (c : ℕ) (h : List (Made QueueCall)) (b : List �
   comes : (m : Made QueueCall) (x : Sent) (b′ : List ℕ) → findsFull c (buffered c h) m ≡ 0 → enters m h ≡ x ∷ [] → accepts m h ≡ x ∷ [] → waitingSends h ≡ [] → waitingSends (m ∷ h) ≡ [] → handed m ++ b′ ≡ b ++ (x .word ∷ [])
       → Moves c line m h b′
   comes m x b′ z e a w w′ f = moves m b′ z (f ∙ ap (λ (l : List Sent). b ++ map wordOf l) (sym e)) (in-turn line ((λ i. e i ++ w′ i) ∙ sym (λ i. w i ++ a i)))
+      (frees-none line m h (ap (keep (shown (m .answer .released))) w))
 
 -- ---- a call on the queue
 module _ (ts : List TaskEntry) (ws : List Waiter) (xs : List Queue) (t q : ℕ) (hq : q ≢ 0) (r : q ≤ length xs) (d : Distinct ws) (k : QueueOk (viewIn ws xs q)) (h : List (Made QueueCall)) where
@@ -225,15 +244,17 @@ module _ (ts : List TaskEntry) (ws : List Waiter) (xs : List Queue) (t q : ℕ) 
         moves line c h b words m _ z
         ((λ i. hd i ++ refilled b′ i) ∙ sym f ∙ sym (append-nil b) ∙ ap (λ (l : List Sent). b ++ map wordOf l) (sym e))
         (in-turn line ((λ i. e i ++ (wt ∙ ap (λ (l : List Sent). keep (notShown (m .answer .released)) l ++ []) n) i) ∙ sym (λ i. n i ++ ac i)))
+        (frees-none line m h (ap (keep (shown (m .answer .released))) n))
 
     releases : (v : ℕ) (b′ b″ : List ℕ) (e : Waiter) (l : List Waiter) → v ∷ b″ ≡ b ++ (e .word ∷ []) → b′ ≡ b″ → sendersOf ts ws xs q ≡ e ∷ l → (p : Patience) → Moves c line (made (own (receive p)) (say ok v (freed e 0))) h b′
     releases v b′ b″ e l f g u p =
         let a = waitersIn ws (place sending q) in
-        let y = first-freed line e l a 0 (waitingSends h) then (subst Distinct u (standing-distinct order ts a (distinct-keep (standsAt (place sending q)) ws d)) .0)
+        let y = first-freed line e l a 0 (waitingSends h) then (subst Distinct u (standing-distinct order ts a (distinct-keep (standsAt (place sending q)) ws d)) .0) (standing-least order ts a u)
         (λ n. ap (keep (λ (y : Waiter). eqb n (line (y .task)))) (sym u) ∙ standing-line order ts n a) in
         moves line c h b words (made (own (receive p)) (say ok v (freed e 0))) b′ refl
         (ap (λ (m : List ℕ). v ∷ m) g ∙ f ∙ ap (λ (n : ℕ). b ++ (n ∷ [])) (sym (y .word)) ∙ ap (λ (m : List Sent). b ++ map wordOf m) (sym (y .alone)))
         (first-goes line (shown (freed e 0)) (y .send) (waitingSends h) (y .alone) (y .first))
+        (subst (All (λ (u : Sent). All (λ (z : Sent). line (u .task) ≤ line (z .task)) (waitingSends h))) (sym (y .alone)) (y .urgent, tt))
 
     replaces : (w z : ℕ) (b′ : List ℕ) → c ≤ length b → b ≡ z ∷ b′ → Moves c line (made (own (forcedSend w)) (say ok 0 [])) h (queueIn (setBuffer xs q (b′ ++ (w ∷ []))) q .buffer)
     replaces w z b′ g f =
@@ -248,6 +269,7 @@ module _ (ts : List TaskEntry) (ws : List Waiter) (xs : List Queue) (t q : ℕ) 
               ∙ ap (λ (i : ℕ). map wordOf (drop i l ++ (sentAs (length h) t w true ∷ []))) (sym n);
           one = subst (λ (i : ℕ). length (take i l) ≡ i) (sym n) (sym (length-map (take 1 l) wordOf) ∙ ap length (sym (p .0)));
           turn = ahead line refl (waits-on (waitingSends h)) refl;
+          urgent = frees-none line (made (own (forcedSend w)) (say ok 0 [])) h (none-freed (waitingSends h));
         }
 
     pub own-moves : (a : QueueCall) → PlaceLaw a (does ts ws xs t q a)
@@ -255,12 +277,13 @@ module _ (ts : List TaskEntry) (ws : List Waiter) (xs : List Queue) (t q : ℕ) 
       sendPasses = λ p w e l f. passes (sentAs (length h) t w false) f (made (own (send p w)) (say ok 0 (freed e w))) refl refl refl refl refl;
       sendStores = λ p w f g. stores (sentAs (length h) t w false) g (made (own (send p w)) (say ok 0 [])) refl refl refl refl refl;
       sendFails = λ w f g. refused-moves line c h b words t (some (own (send polling w))) eTmout;
-      sendWaits = λ w f g. moves line c h b words (made (own (send forever w)) (say waiting 0 [])) b refl (sym (append-nil b)) (in-turn line (ap (λ (l : List Sent). l ++ (sentAs (length h) t w false ∷ [])) (none-shown (waitingSends h))));
+      sendWaits = λ w f g. moves line c h b words (made (own (send forever w)) (say waiting 0 [])) b refl (sym (append-nil b)) (in-turn line (ap (λ (l : List Sent). l ++ (sentAs (length h) t w false ∷ [])) (none-shown (waitingSends h))))
+          (frees-none line (made (own (send forever w)) (say waiting 0 [])) h (none-freed (waitingSends h)));
       receives = λ p v b′ f g. takes v b′ f g (made (own (receive p)) (say ok v [])) refl refl refl refl refl;
       receiveRefills = λ p v b′ e l f g. releases v _ (b′ ++ (e .word ∷ [])) e l (ap (λ (m : List ℕ). m ++ (e .word ∷ [])) (sym f)) (refilled (b′ ++ (e .word ∷ []))) g p;
       receivePasses = λ p e l f g. releases (e .word) b [] e l (ap (λ (m : List ℕ). m ++ (e .word ∷ [])) (sym f)) f g p;
       receiveFails = λ f g. refused-moves line c h b words t (some (own (receive polling))) eTmout;
-      receiveWaits = λ f g. moves-none line c h b words (made (own (receive forever)) (say waiting 0 [])) b refl refl refl refl (waits-on (waitingSends h)) refl;
+      receiveWaits = λ f g. moves-none line c h b words (made (own (receive forever)) (say waiting 0 [])) b refl refl refl refl (waits-on (waitingSends h)) (none-freed (waitingSends h)) refl;
       forceMisused = λ w f. refused-moves line c h b words t (some (own (forcedSend w))) eIluse;
       forcePasses = λ w e l n f. passes (sentAs (length h) t w true) f (made (own (forcedSend w)) (say ok 0 (freed e w))) (finds-room c h b words w (positive n f)) refl refl refl refl;
       forceStores = λ w f g. stores (sentAs (length h) t w true) g (made (own (forcedSend w)) (say ok 0 [])) (finds-room c h b words w (ltb-true (length b) c g)) refl refl refl refl;
@@ -278,5 +301,5 @@ module _ (ts : List TaskEntry) (ws : List Waiter) (xs : List Queue) (t q : ℕ) 
     -- a refer and a set-vector move nothing
     pub act-moves : (a : Act QueueCall) → Moves c line (made a (actOn room ts ws xs t q a .answer)) h (queueIn (actOn room ts ws xs t q a .records) q .buffer)
     act-moves (own a) = own-moves a
-    act-moves refer = moves-none line c h b words (made refer (tells (told ts ws xs q))) b refl refl refl refl (waits-on (waitingSends h)) refl
-    act-moves (setVector v) = moves-none line c h b words (made (setVector v) (say ok 0 [])) _ refl refl refl refl (waits-on (waitingSends h)) (at-put-keep (λ (x : Queue). x .buffer) noQueue xs q q _ refl)
+    act-moves refer = moves-none line c h b words (made refer (tells (told ts ws xs q))) b refl refl refl refl (waits-on (waitingSends h)) (none-freed (waitingSends h)) refl
+    act-moves (setVector v) = moves-none line c h b words (made (setVector v) (say ok 0 [])) _ refl refl refl refl (waits-on (waitingSends h)) (none-freed (waitingSends h)) (at-put-keep (λ (x : Queue). x .buffer) noQueue xs q q _ refl)

@@ -467,4 +467,5 @@ carried s₀ j cs q =
       takersAllowed = each-taken s₀ j cs q;
       sendersAre = senders-are s₀ j cs q;
       inLines = in-lines s₀ j cs q;
+      urgentFirst = i .urgentFirst;
     }

@@ -4,7 +4,7 @@ use mathlib.Core.Logic.{inl}
 use mathlib.Core.Bool.{Bool, true, false}
 use mathlib.Core.List.{List, [], _∷_, _++_, map}
 use mathlib.Core.Option.{some}
-use Prim.Native.Nat.{ℕ, suc, _<_}
+use Prim.Native.Nat.{ℕ, suc, _≤_, _<_}
 use native.Mathlib.Omega.{arith}
 use lib.Dec.{eqb}
 use lib.IntN.{pos, negsuc}
@@ -12,8 +12,8 @@ use lib.ListN.{length, getD}
 use Rattle.itron.specs.Limits.{minUnit}
 use Rattle.access.specs.Patterns.{admitted}
 use Rattle.itron.specs.Codes.{Err, Code, ok, waiting, error, eOacv, eQovr, eTmout}
-use Rattle.model.specs.Lists.{gathered}
-use Rattle.model.specs.State.{Vector, TaskEntry, onSem, receiving, sending, Place, Waiter, State, stateWith, setWaits, setSems, setQueues, place, sideNumber, waiter}
+use Rattle.model.specs.Lists.{at, gathered}
+use Rattle.model.specs.State.{Vector, TaskEntry, Queue, onSem, receiving, sending, Place, Waiter, State, stateWith, setWaits, setSems, setQueues, place, sideNumber, waiter}
 use Rattle.model.specs.Answers.{Released, say}
 use Rattle.model.specs.Waits.{polling, forever}
 use Rattle.model.specs.Acts.{own, setVector}
@@ -23,7 +23,7 @@ use Rattle.model.specs.Calls.{Op, onSemaphore, onQueue, call}
 use Rattle.model.specs.History.{Event, History, Made, askedIf}
 use Rattle.model.specs.SemaphoreClaims.{Counted}
 use Rattle.model.specs.Sends.{wordOf, entered, leaves}
-use Rattle.model.specs.QueueClaims.{Sender}
+use Rattle.model.specs.QueueClaims.{Sender, Carried}
 use Rattle.model.specs.Releases.{WaitsAt}
 use Rattle.model.specs.Demand3.{Demand3}
 use Rattle.model.proofs.Lists.{no-both, eqb-same}
@@ -414,3 +414,52 @@ receive-by-another = ((λ d. d .queues 2 .takersAllowed .0), (λ d. d .queues 2 
 pub wait-to-receive-by-another : Shut WaitsToReceive 1 3 4
 unfolding admitted
 wait-to-receive-by-another = ((λ d. d .queues 2 .takersAllowed .0 .0 .1), (λ d. d .queues 2 .takersAllowed .0 .0 .1), (λ d. d .queues 2 .takersAllowed .0 .0 .1))
+
+-- ---- request T-10: tasks 1 and 3 are of priority 2, task 2 of priority 1, all of domain 1; queue 1, of capacity 0, has the attribute a and is for domain 1 only
+abbrev ranked : ℕ → Queue
+ranked a = record { domain = negsuc 0; attribute = a; capacity = 0; buffer = []; vector = for 1 }
+
+abbrev priorityIn : ℕ → ℕ
+priorityIn t = at 0 (2 ∷ 1 ∷ 2 ∷ []) t
+
+-- task t's send of a word answered "waiting"; a receive, by task 4, handed out a word and released task t
+abbrev linesUp : ℕ → ℕ → Made QueueCall
+linesUp t w = record { caller = t; asked = some (own (send forever w)); answer = say waiting 0 [] }
+
+abbrev takes : ℕ → ℕ → Made QueueCall
+takes w t = record { caller = 4; asked = some (own (receive polling)); answer = say ok w (released t 0) }
+
+-- the claim of the calls h as a queue with the attribute a saw them, which left these senders, first to last
+abbrev Ranked : ℕ → List (Made QueueCall) → List Waiter → Type 0
+Ranked a h senders = Carried (λ (t : ℕ). pos 1) priorityIn (ranked a) h [] senders
+
+abbrev sender : ℕ → ℕ → Waiter
+sender t w = waiter t sending 1 w
+
+-- "stand by priority": a more urgent sender stands behind a less urgent one
+pub urgent-behind : Ranked 1 (linesUp 2 702 ∷ linesUp 1 701 ∷ []) (sender 1 701 ∷ sender 2 702 ∷ []) → ⊥
+urgent-behind d = let e : 2 ≤ 1 = d .inLines .0 .0 in omega arith
+
+-- "and equals in order of arrival"
+pub equals-exchanged : Ranked 1 (linesUp 3 703 ∷ linesUp 1 701 ∷ []) (sender 3 703 ∷ sender 1 701 ∷ []) → ⊥
+equals-exchanged d = let e : _≡_ {A = ℕ} 3 1 = ap (λ (l : List Sender). getD (map (λ (x : Sender). x .task) l) 0 0) (d .sendersAre 2) in omega arith
+
+-- on a first-come queue priorities decide nothing
+pub urgent-ahead-first-come : Ranked 0 (linesUp 2 702 ∷ linesUp 1 701 ∷ []) (sender 2 702 ∷ sender 1 701 ∷ []) → ⊥
+urgent-ahead-first-come d = let e : _≡_ {A = ℕ} 2 1 = ap (λ (l : List Sender). getD (map (λ (x : Sender). x .task) l) 0 0) (d .sendersAre 0) in omega arith
+
+-- a sender of a priority queue is forgotten, whatever its line
+pub ranked-sender-forgotten : Ranked 1 (linesUp 2 702 ∷ linesUp 1 701 ∷ []) (sender 2 702 ∷ []) → ⊥
+ranked-sender-forgotten d = let e : _≡_ {A = ℕ} 0 1 = ap length (d .sendersAre 2) in omega arith
+
+-- "call order .. among unforced sends of equal priority": a later one passes first
+pub passed-in-line : Ranked 1 (takes 703 3 ∷ linesUp 3 703 ∷ linesUp 1 701 ∷ []) (sender 1 701 ∷ []) → ⊥
+passed-in-line d = let e : 1 < 0 = d .inCallOrder 2 .0 .0 in omega arith
+
+-- on a first-come queue a more urgent one passes first
+pub passed-first-come : Ranked 0 (takes 702 2 ∷ linesUp 2 702 ∷ linesUp 1 701 ∷ []) (sender 1 701 ∷ []) → ⊥
+passed-first-come d = let e : 1 < 0 = d .inCallOrder 0 .0 .0 in omega arith
+
+-- a less urgent one passes while a more urgent one waits
+pub less-urgent-passed : Ranked 1 (takes 701 1 ∷ linesUp 2 702 ∷ linesUp 1 701 ∷ []) (sender 2 702 ∷ []) → ⊥
+less-urgent-passed d = let e : 2 ≤ 1 = d .urgentFirst .0 .0 .1 .0 in omega arith
