@@ -3,57 +3,56 @@ use Prim.Native.Nat.{ℕ, suc, _+_, _<_}
 use native.Mathlib.Omega.{arith}
 use mathlib.Core.Path.{_≡_, sym, ap, _∙_, subst₂}
 use mathlib.Core.List.{List, map}
-use lib.IntN.{ℤ, pos}
 use lib.ListN.{length, getD, take, length-map}
 use Rattle.arrays.specs.Pad.{pad}
 use Rattle.arrays.proofs.Pads.{pad-get, pad-take, pad-length}
 use Rattle.itron.specs.Limits.{maxTasks}
-use Rattle.model.specs.State.{Waiter}
+use Rattle.model.specs.State.{TaskEntry, Waiter, noTask as noEntry}
 use Rattle.model.specs.Conditions.{WaitsFit}
 use Rattle.model.proofs.Fits.{few}
 use Rattle.tasks.specs.declared.task.Task.{Task}
 use Rattle.tasks.specs.declared.state.Tasks.{Tasks}
-use Rattle.tasks.specs.View.{noTask, waiterAt, domainOf, domainsOf, waitsOf}
-use Rattle.tasks.specs.Form.{tasksAs, tasksFrom, waitFor, indexIn}
+use Rattle.tasks.specs.View.{noTask, waiterAt, entryOf, entriesOf, waitsOf}
+use Rattle.tasks.specs.Form.{taskAs, tasksAs, tasksFrom, waitFor, indexIn}
 use Rattle.tasks.specs.Held.{Held}
-use Rattle.tasks.proofs.Entries.{entry, entries-length, entries-domains, entries-get, waiters-back}
+use Rattle.tasks.proofs.Entries.{entries-length, entries-seen, entries-get, waiters-back}
 
 -- the entry of a task in the form
-pub entry-at : (ds : List ℤ) (ws : List Waiter) (i : ℕ) → i < length ds → getD (pad maxTasks noTask (tasksFrom 0 ds ws)) i noTask ≡ entry (getD ds i (pos 0)) (waitFor (suc i) ws)
-entry-at ds ws i h =
+pub entry-at : (es : List TaskEntry) (ws : List Waiter) (i : ℕ) → i < length es → getD (pad maxTasks noTask (tasksFrom 0 es ws)) i noTask ≡ taskAs (getD es i noEntry) (waitFor (suc i) ws)
+entry-at es ws i h =
     let e : suc (0 + i) ≡ suc i = omega arith in
-    pad-get noTask maxTasks (tasksFrom 0 ds ws) i ∙ entries-get 0 ds ws i h ∙ ap (λ (t : ℕ). entry (getD ds i (pos 0)) (waitFor t ws)) e
+    pad-get noTask maxTasks (tasksFrom 0 es ws) i ∙ entries-get 0 es ws i h ∙ ap (λ (t : ℕ). taskAs (getD es i noEntry) (waitFor t ws)) e
 
-pub back-domains : (ds : List ℤ) (ws : List Waiter) → WaitsFit ds ws → domainsOf (tasksAs ds ws) ≡ ds
-unfolding domainsOf tasksAs
-back-domains ds ws f =
-    let ts = tasksFrom 0 ds ws in
-    ap (λ (n : ℕ). map domainOf (take n (pad maxTasks noTask ts))) (sym (entries-length 0 ds ws))
-    ∙ ap (map domainOf) (pad-take noTask maxTasks ts) ∙ entries-domains 0 ds ws
+pub back-entries : (es : List TaskEntry) (ws : List Waiter) → WaitsFit es ws → entriesOf (tasksAs es ws) ≡ es
+unfolding entriesOf tasksAs
+back-entries es ws f =
+    let ts = tasksFrom 0 es ws in
+    ap (λ (n : ℕ). map entryOf (take n (pad maxTasks noTask ts))) (sym (entries-length 0 es ws))
+    ∙ ap (map entryOf) (pad-take noTask maxTasks ts) ∙ entries-seen 0 es ws
 
-pub back-waits : (ds : List ℤ) (ws : List Waiter) → WaitsFit ds ws → waitsOf (tasksAs ds ws) ≡ ws
+pub back-waits : (es : List TaskEntry) (ws : List Waiter) → WaitsFit es ws → waitsOf (tasksAs es ws) ≡ ws
 unfolding waitsOf tasksAs
-back-waits ds ws f =
-    let ts = pad maxTasks noTask (tasksFrom 0 ds ws) in
+back-waits es ws f =
+    let ts = pad maxTasks noTask (tasksFrom 0 es ws) in
     ap (λ (n : ℕ). map (waiterAt ts) (take n (pad maxTasks 0 (map indexIn ws)))) (sym (length-map ws indexIn))
     ∙ ap (map (waiterAt ts)) (pad-take 0 maxTasks (map indexIn ws))
-    ∙ waiters-back ts (length ds) ws (f .distinct) (f .known) (f .plain) (λ i h. ap (λ (t : Task). t .wait) (entry-at ds ws i h))
+    ∙ waiters-back ts (length es) ws (f .distinct) (f .known) (f .plain) (λ i h. ap (λ (t : Task). t .wait) (entry-at es ws i h))
 
-pub held-as : (ds : List ℤ) (ws : List Waiter) → WaitsFit ds ws → Held (tasksAs ds ws)
+pub held-as : (es : List TaskEntry) (ws : List Waiter) → WaitsFit es ws → Held (tasksAs es ws)
 unfolding tasksAs
-held-as ds ws f =
-    let d = back-domains ds ws f in
-    let w = back-waits ds ws f in
+held-as es ws f =
+    let d = back-entries es ws f in
+    let w = back-waits es ws f in
     record {
       form = λ i. tasksAs (sym d i) (sym w i);
-      fit = subst₂ (λ (x : List ℤ) (y : List Waiter). WaitsFit x y) (sym d) (sym w) f;
+      fit = subst₂ (λ (x : List TaskEntry) (y : List Waiter). WaitsFit x y) (sym d) (sym w) f;
       few = f .tasks;
       room = let a = few f in let b = f .tasks in omega arith;
     }
 
 -- ---- of any tasks that are held
 module _ {t : Tasks} (h : Held t) where
-  pub count-seen : t .count ≡ length (domainsOf t)
+  pub count-seen : t .count ≡ length (entriesOf t)
   unfolding tasksAs
   count-seen = ap (λ (x : Tasks). x .count) (h .form)
 
@@ -61,12 +60,12 @@ module _ {t : Tasks} (h : Held t) where
   unfolding tasksAs
   waiting-seen = ap (λ (x : Tasks). x .waiting) (h .form)
 
-  pub entry-seen : (i : ℕ) → i < length (domainsOf t) → getD (t .entries) i noTask ≡ entry (getD (domainsOf t) i (pos 0)) (waitFor (suc i) (waitsOf t))
+  pub entry-seen : (i : ℕ) → i < length (entriesOf t) → getD (t .entries) i noTask ≡ taskAs (getD (entriesOf t) i noEntry) (waitFor (suc i) (waitsOf t))
   unfolding tasksAs
-  entry-seen i l = ap (λ (x : Tasks). getD (x .entries) i noTask) (h .form) ∙ entry-at (domainsOf t) (waitsOf t) i l
+  entry-seen i l = ap (λ (x : Tasks). getD (x .entries) i noTask) (h .form) ∙ entry-at (entriesOf t) (waitsOf t) i l
 
   pub entries-long : length (t .entries) ≡ maxTasks
   unfolding tasksAs
   entries-long =
       ap (λ (x : Tasks). length (x .entries)) (h .form)
-      ∙ pad-length noTask maxTasks (tasksFrom 0 (domainsOf t) (waitsOf t)) (let n = entries-length 0 (domainsOf t) (waitsOf t) in let l = h .fit .tasks in omega arith)
+      ∙ pad-length noTask maxTasks (tasksFrom 0 (entriesOf t) (waitsOf t)) (let n = entries-length 0 (entriesOf t) (waitsOf t) in let l = h .fit .tasks in omega arith)

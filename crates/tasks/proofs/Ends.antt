@@ -15,7 +15,7 @@ use Rattle.model.specs.declared.Reply.{Reply}
 use Rattle.model.proofs.Patience.{the-type as patience-type}
 use Rattle.tasks.specs.declared.state.Tasks.{Tasks}
 use Rattle.tasks.specs.declared.wait.Ended.{Ended}
-use Rattle.tasks.specs.View.{domainsOf, waitsOf}
+use Rattle.tasks.specs.View.{entriesOf, waitsOf}
 use Rattle.tasks.specs.Form.{tasksAs}
 use Rattle.tasks.specs.Held.{Held}
 use Rattle.tasks.specs.Ends.{endedOf}
@@ -24,17 +24,17 @@ abbrev pub ended : Reply → Tasks → Ended
 ended r t = record { reply = r; tasks = t }
 
 module _ {t : Tasks} (h : Held t) (e : Waiter) (p : Patience) where
-  pub polls : OneOf (0 ∷ []) (tagOf patience-type p) → ended (replyOf (say (error eTmout) 0 [])) t ≡ endedOf (domainsOf t) (orWaits {R = ℕ} (waitsOf t) [] p e)
+  pub polls : OneOf (0 ∷ []) (tagOf patience-type p) → ended (replyOf (say (error eTmout) 0 [])) t ≡ endedOf (entriesOf t) (orWaits {R = ℕ} (waitsOf t) [] p e)
   polls k = go p k
     where
-      go : (p : Patience) → OneOf (0 ∷ []) (tagOf patience-type p) → ended (replyOf (say (error eTmout) 0 [])) t ≡ endedOf (domainsOf t) (orWaits {R = ℕ} (waitsOf t) [] p e)
+      go : (p : Patience) → OneOf (0 ∷ []) (tagOf patience-type p) → ended (replyOf (say (error eTmout) 0 [])) t ≡ endedOf (entriesOf t) (orWaits {R = ℕ} (waitsOf t) [] p e)
       go Polling k = ap (ended (replyOf (say (error eTmout) 0 []))) (h .form)
       go Forever k = absurd (omega arith)
 
-  pub joins : (n : Tasks) → n ≡ tasksAs (domainsOf t) (join e (waitsOf t)) → OneOf (1 ∷ []) (tagOf patience-type p)
-      → ended (replyOf (say waiting 0 [])) n ≡ endedOf (domainsOf t) (orWaits {R = ℕ} (waitsOf t) [] p e)
+  pub joins : (n : Tasks) → n ≡ tasksAs (entriesOf t) (join e (waitsOf t)) → OneOf (1 ∷ []) (tagOf patience-type p)
+      → ended (replyOf (say waiting 0 [])) n ≡ endedOf (entriesOf t) (orWaits {R = ℕ} (waitsOf t) [] p e)
   joins n q k = ap (ended (replyOf (say waiting 0 []))) q ∙ go p k
     where
-      go : (p : Patience) → OneOf (1 ∷ []) (tagOf patience-type p) → ended (replyOf (say waiting 0 [])) (tasksAs (domainsOf t) (join e (waitsOf t))) ≡ endedOf (domainsOf t) (orWaits {R = ℕ} (waitsOf t) [] p e)
+      go : (p : Patience) → OneOf (1 ∷ []) (tagOf patience-type p) → ended (replyOf (say waiting 0 [])) (tasksAs (entriesOf t) (join e (waitsOf t))) ≡ endedOf (entriesOf t) (orWaits {R = ℕ} (waitsOf t) [] p e)
       go Forever k = refl
       go Polling k = absurd (omega arith)

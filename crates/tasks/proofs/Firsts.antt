@@ -16,7 +16,7 @@ use Rattle.tasks.specs.declared.task.Task.{Task}
 use Rattle.tasks.specs.declared.state.Tasks.{Tasks}
 use Rattle.tasks.specs.declared.wait.First.{First}
 use Rattle.tasks.specs.declared.wait.First.the-variants.{Nobody, Waiter as FirstIs}
-use Rattle.tasks.specs.View.{noTask, waiterOf, waiterAt, domainsOf, waitsOf}
+use Rattle.tasks.specs.View.{noTask, waiterOf, waiterAt, entriesOf, waitsOf}
 use Rattle.tasks.specs.Held.{Held}
 use Rattle.tasks.specs.Ends.{firstOf, taskIn}
 use Rattle.tasks.proofs.wait.First.{the-type as first-type}
@@ -36,12 +36,12 @@ pub record Waits (t : Tasks) (p : Place) (i w : ℕ) : Type 0 where
   pub list : waitersIn (waitsOf t) p ≡ entry ∷ rest
   pub task : entry .task ≡ suc i
   pub word : entry .word ≡ w
-  pub low : i < length (domainsOf t)
+  pub low : i < length (entriesOf t)
 
 pub waits : {t : Tasks} → Held t → (p : Place) (i w : ℕ) → firstOf (waitersIn (waitsOf t) p) ≡ FirstIs i w → Waits t p i w
-waits {t} h p i w e = go (waitersIn (waitsOf t) p) refl e (all-keep (Known (length (domainsOf t))) (standsAt p) (waitsOf t) (h .fit .known))
+waits {t} h p i w e = go (waitersIn (waitsOf t) p) refl e (all-keep (Known (length (entriesOf t))) (standsAt p) (waitsOf t) (h .fit .known))
   where
-    go : (l : List Waiter) → waitersIn (waitsOf t) p ≡ l → firstOf l ≡ FirstIs i w → All (Known (length (domainsOf t))) l → Waits t p i w
+    go : (l : List Waiter) → waitersIn (waitsOf t) p ≡ l → firstOf l ≡ FirstIs i w → All (Known (length (entriesOf t))) l → Waits t p i w
     go [] q e k = absurd (let z : _≡_ {A = ℕ} 0 1 = cc in omega arith)
     go (x ∷ l) q e k =
         let j : index (x .task) ≡ i = cc in
@@ -64,9 +64,9 @@ shown ts (i ∷ o) = (ap (λ (n : ℕ). waiterAt ts (index n)) (task-any (suc i)
 
 module _ {t : Tasks} (h : Held t) (p : Place) (n : ℕ) (e : n ≡ getD (map taskIn (waitersIn (waitsOf t) p)) 0 0) where
   pub first-none : n ≡ 0 → Nobody ≡ firstOf (waitersIn (waitsOf t) p)
-  first-none z = go (waitersIn (waitsOf t) p) e (all-keep (Known (length (domainsOf t))) (standsAt p) (waitsOf t) (h .fit .known))
+  first-none z = go (waitersIn (waitsOf t) p) e (all-keep (Known (length (entriesOf t))) (standsAt p) (waitsOf t) (h .fit .known))
     where
-      go : (l : List Waiter) → n ≡ getD (map taskIn l) 0 0 → All (Known (length (domainsOf t))) l → Nobody ≡ firstOf l
+      go : (l : List Waiter) → n ≡ getD (map taskIn l) 0 0 → All (Known (length (entriesOf t))) l → Nobody ≡ firstOf l
       go [] e k = refl
       go (x ∷ l) e k = absurd (k .0 .0 (sym e ∙ z))
 

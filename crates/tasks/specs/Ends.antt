@@ -3,11 +3,10 @@ use Prim.Native.Nat.{ℕ, suc}
 use mathlib.Core.Bool.{Bool, cond, not, _&&_}
 use mathlib.Core.List.{List, [], _∷_}
 use lib.Dec.{eqb, leb}
-use lib.IntN.{ℤ, pos}
 use lib.ListN.{length}
 use Rattle.itron.specs.Codes.{okNumber}
 use Rattle.model.specs.Lists.{index, at}
-use Rattle.model.specs.State.{Waiter}
+use Rattle.model.specs.State.{TaskEntry, Waiter, noTask as noEntry}
 use Rattle.model.specs.Answers.{Effect, replyOf}
 use Rattle.model.specs.Waits.{absent, leave}
 use Rattle.model.specs.declared.Outcome.the-variants.{Code}
@@ -18,7 +17,7 @@ use Rattle.tasks.specs.declared.wait.Caller.{Caller}
 use Rattle.tasks.specs.declared.wait.Caller.the-variants as Caller
 use Rattle.tasks.specs.declared.wait.Ended.{Ended}
 use Rattle.tasks.specs.View.{noTask}
-use Rattle.tasks.specs.Form.{tasksAs, waitFor}
+use Rattle.tasks.specs.Form.{taskAs, tasksAs, waitFor}
 
 -- the first of a wait queue, with its word
 abbrev pub firstOf : List Waiter → First
@@ -30,21 +29,21 @@ abbrev pub taskIn : Waiter → ℕ
 taskIn e = e .task
 
 -- a number from 1 to the number of tasks
-abbrev pub isTask : List ℤ → ℕ → Bool
-isTask ds t = not (eqb t 0) && leb t (length ds)
+abbrev pub isTask : List TaskEntry → ℕ → Bool
+isTask es t = not (eqb t 0) && leb t (length es)
 
 -- who calls: a registered ready task with its domain, or nobody who may
-abbrev pub callerOf : List ℤ → List Waiter → ℕ → Caller
-callerOf ds ws t = cond (isTask ds t && absent t ws) (Caller.Ready (index t) (at (pos 0) ds t)) Caller.Nobody
+abbrev pub callerOf : List TaskEntry → List Waiter → ℕ → Caller
+callerOf es ws t = cond (isTask es t && absent t ws) (Caller.Ready (index t) (at noEntry es t .domain)) Caller.Nobody
 
 -- the task with a number; an unused cell where there is none
-abbrev pub taskOf : List ℤ → List Waiter → ℕ → Task
-taskOf ds ws t = cond (isTask ds t) (record { domain = at (pos 0) ds t; wait = waitFor t ws }) noTask
+abbrev pub taskOf : List TaskEntry → List Waiter → ℕ → Task
+taskOf es ws t = cond (isTask es t) (taskAs (at noEntry es t) (waitFor t ws)) noTask
 
 -- a call's end that changes the tasks only
-abbrev pub endedOf : {R : Type 0} → List ℤ → Effect R → Ended
-endedOf ds e = record { reply = replyOf (e .answer); tasks = tasksAs ds (e .waits) }
+abbrev pub endedOf : {R : Type 0} → List TaskEntry → Effect R → Ended
+endedOf es e = record { reply = replyOf (e .answer); tasks = tasksAs es (e .waits) }
 
 -- the task with index t is released with a word, and the caller gets one
-abbrev pub wokenOf : List ℤ → List Waiter → ℕ → ℕ → ℕ → Ended
-wokenOf ds ws t word handed = record { reply = record { outcome = Code okNumber; word = word; released = record { task = suc t; word = handed } }; tasks = tasksAs ds (leave (suc t) ws) }
+abbrev pub wokenOf : List TaskEntry → List Waiter → ℕ → ℕ → ℕ → Ended
+wokenOf es ws t word handed = record { reply = record { outcome = Code okNumber; word = word; released = record { task = suc t; word = handed } }; tasks = tasksAs es (leave (suc t) ws) }

@@ -3,12 +3,11 @@ use Prim.Native.Nat.{ℕ, suc}
 use mathlib.Core.Bool.{cond}
 use mathlib.Core.List.{List, [], _∷_, map}
 use lib.Dec.{eqb}
-use lib.IntN.{ℤ}
 use lib.ListN.{length}
 use Rattle.arrays.specs.Pad.{pad}
 use Rattle.itron.specs.Limits.{maxTasks}
 use Rattle.model.specs.Lists.{index}
-use Rattle.model.specs.State.{Waiter}
+use Rattle.model.specs.State.{TaskEntry, Waiter}
 use Rattle.model.specs.declared.Side.{Side}
 use Rattle.model.specs.declared.Side.the-variants.{OnSem as onSem, Receiving as receiving, Sending as sending}
 use Rattle.tasks.specs.declared.task.Wait.{Wait}
@@ -30,19 +29,23 @@ abbrev pub waitFor : ℕ → List Waiter → Wait
 waitFor t [] = Ready
 waitFor t (e ∷ l) = cond (eqb t (e .task)) (waitIn e) (waitFor t l)
 
--- the tasks after the first n, of these domains
-abbrev pub tasksFrom : ℕ → List ℤ → List Waiter → List Task
+-- a task by its entry and what it does
+abbrev pub taskAs : TaskEntry → Wait → Task
+taskAs e w = record { domain = e .domain; priority = e .priority; wait = w }
+
+-- the tasks after the first n, of these entries
+abbrev pub tasksFrom : ℕ → List TaskEntry → List Waiter → List Task
 tasksFrom n [] l = []
-tasksFrom n (d ∷ ds) l = record { domain = d; wait = waitFor (suc n) l } ∷ tasksFrom (suc n) ds l
+tasksFrom n (e ∷ es) l = taskAs e (waitFor (suc n) l) ∷ tasksFrom (suc n) es l
 
 abbrev pub indexIn : Waiter → ℕ
 indexIn e = index (e .task)
 
-unfoldable pub tasksAs : List ℤ → List Waiter → Tasks
-tasksAs ds ws =
+unfoldable pub tasksAs : List TaskEntry → List Waiter → Tasks
+tasksAs es ws =
     record {
-      count = length ds;
-      entries = pad maxTasks noTask (tasksFrom 0 ds ws);
+      count = length es;
+      entries = pad maxTasks noTask (tasksFrom 0 es ws);
       waiting = length ws;
       order = pad maxTasks 0 (map indexIn ws);
     }

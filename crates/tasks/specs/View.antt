@@ -1,9 +1,9 @@
--- What is seen of the tasks: their domains, and who waits. Definitions only.
+-- What is seen of the tasks: their entries, and who waits. Definitions only.
 use Prim.Native.Nat.{ℕ, suc}
 use mathlib.Core.List.{List, map}
-use lib.IntN.{ℤ, pos}
+use lib.IntN.{pos}
 use lib.ListN.{getD, take}
-use Rattle.model.specs.State.{Waiter, waiter}
+use Rattle.model.specs.State.{TaskEntry, Waiter, waiter}
 use Rattle.model.specs.declared.Side.the-variants.{OnSem as onSem, Receiving as receiving, Sending as sending}
 use Rattle.tasks.specs.declared.task.Wait.{Wait}
 use Rattle.tasks.specs.declared.task.Wait.the-variants.{Ready, OnSem, Receiving, Sending}
@@ -12,11 +12,11 @@ use Rattle.tasks.specs.declared.state.Tasks.{Tasks}
 
 -- what an unused cell holds
 abbrev pub noTask : Task
-noTask = record { domain = pos 0; wait = Ready }
+noTask = record { domain = pos 0; priority = 0; wait = Ready }
 
 -- the same task, which does something else
 abbrev pub withWait : Task → Wait → Task
-withWait t w = record { domain = t .domain; wait = w }
+withWait t w = record { domain = t .domain; priority = t .priority; wait = w }
 
 -- a waiting task: its number, where it waits, and its word
 abbrev pub waiterOf : ℕ → Wait → Waiter
@@ -28,12 +28,12 @@ waiterOf t (Sending k w) = waiter t sending (suc k) w
 abbrev pub waiterAt : List Task → ℕ → Waiter
 waiterAt ts i = waiterOf (suc i) (getD ts i noTask .wait)
 
-abbrev pub domainOf : Task → ℤ
-domainOf t = t .domain
+abbrev pub entryOf : Task → TaskEntry
+entryOf t = record { domain = t .domain; priority = t .priority }
 
--- the domain of each task
-unfoldable pub domainsOf : Tasks → List ℤ
-domainsOf t = map domainOf (take (t .count) (t .entries))
+-- each task, as its entry gave it
+unfoldable pub entriesOf : Tasks → List TaskEntry
+entriesOf t = map entryOf (take (t .count) (t .entries))
 
 -- all who wait, in the order in which they began to
 unfoldable pub waitsOf : Tasks → List Waiter

@@ -4,9 +4,11 @@ ghost use mathlib.Core.Bool.{false};
 ghost use mathlib.Core.List.{[], _∷_, _++_};
 ghost use Prim.Native.Nat.{suc, _<_};
 ghost use lib.ListN.{length};
-ghost use Rattle.itron.specs.Limits.{maxTasks};
+ghost use Rattle.itron.specs.Limits.{maxDomains, maxTasks};
+ghost use Rattle.model.specs.Conditions.{TaskEntryFits};
+ghost use Rattle.model.specs.Table.{newTask};
 ghost use Rattle.model.specs.Waits.{leave, join};
-ghost use Rattle.tasks.specs.View.{domainsOf, waitsOf, waiterOf};
+ghost use Rattle.tasks.specs.View.{entriesOf, waitsOf, waiterOf};
 ghost use Rattle.tasks.specs.Form.{tasksAs};
 ghost use Rattle.tasks.specs.Held.{Held, Free, isReady};
 ghost use Rattle.tasks.specs.Ends.{taskOf};
@@ -32,6 +34,7 @@ impl Tasks {
             count: 0,
             entries: [Task {
                 domain: 0,
+                priority: 0,
                 wait: Wait::Ready,
             }; MAX_TASKS],
             waiting: 0,
@@ -42,19 +45,20 @@ impl Tasks {
     // How many tasks there are.
     pub fn len(self) -> usize
         requires { ⌜ Held self ⌝ }
-        ensures { λ r. ⌜ r ≡ length (domainsOf self) ⌝ }
+        ensures { λ r. ⌜ r ≡ length (entriesOf self) ⌝ }
     {
         self.count
     }
 
     // One task more, which is ready.
-    pub fn add(mut self, domain: i32) -> Tasks
-        requires { ⌜ Held self × (length (domainsOf self) < maxTasks) × (waitsOf self ≡ []) ⌝ }
-        ensures { λ r. ⌜ r ≡ tasksAs (domainsOf self ++ (domain ∷ [])) (waitsOf self) ⌝ }
+    pub fn add(mut self, domain: i32, priority: u32) -> Tasks
+        requires { ⌜ Held self × (length (entriesOf self) < maxTasks) × (waitsOf self ≡ []) × TaskEntryFits maxDomains (newTask domain priority) ⌝ }
+        ensures { λ r. ⌜ r ≡ tasksAs (entriesOf self ++ (newTask domain priority ∷ [])) (waitsOf self) ⌝ }
     {
         let at = self.count;
         self.entries[at] = Task {
-            domain,
+            domain: domain as i8,
+            priority: priority as u8,
             wait: Wait::Ready,
         };
         self.count = at + 1;
@@ -64,17 +68,19 @@ impl Tasks {
     // The task with a number.
     pub fn task(self, number: usize) -> Task
         requires { ⌜ Held self ⌝ }
-        ensures { λ r. ⌜ r ≡ taskOf (domainsOf self) (waitsOf self) number ⌝ }
+        ensures { λ r. ⌜ r ≡ taskOf (entriesOf self) (waitsOf self) number ⌝ }
     {
         if number == 0 {
             return Task {
                 domain: 0,
+                priority: 0,
                 wait: Wait::Ready,
             };
         }
         if self.count < number {
             return Task {
                 domain: 0,
+                priority: 0,
                 wait: Wait::Ready,
             };
         }
@@ -84,8 +90,8 @@ impl Tasks {
 
     // A waiting task becomes ready.
     pub(crate) fn release(mut self, task: usize) -> Tasks
-        requires { ⌜ Held self × (task < length (domainsOf self)) ⌝ }
-        ensures { λ r. ⌜ r ≡ tasksAs (domainsOf self) (leave (suc task) (waitsOf self)) ⌝ }
+        requires { ⌜ Held self × (task < length (entriesOf self)) ⌝ }
+        ensures { λ r. ⌜ r ≡ tasksAs (entriesOf self) (leave (suc task) (waitsOf self)) ⌝ }
     {
         let order = self.order;
         let rest = order::without(order, self.waiting, task as u8);
@@ -100,8 +106,8 @@ impl Tasks {
 
     // A ready task waits, the last of all.
     pub(crate) fn join(mut self, task: usize, wait: Wait) -> Tasks
-        requires { ⌜ Held self × Free (domainsOf self) (waitsOf self) task × (isReady wait ≡ false) ⌝ }
-        ensures { λ r. ⌜ r ≡ tasksAs (domainsOf self) (join (waiterOf (suc task) wait) (waitsOf self)) ⌝ }
+        requires { ⌜ Held self × Free (entriesOf self) (waitsOf self) task × (isReady wait ≡ false) ⌝ }
+        ensures { λ r. ⌜ r ≡ tasksAs (entriesOf self) (join (waiterOf (suc task) wait) (waitsOf self)) ⌝ }
     {
         let at = self.waiting;
         self.order[at] = task as u8;

@@ -11,8 +11,10 @@ pub enum Wait {
     Sending(u8, u32),
 }
 
+// Domain (-1 to 32) and priority as bytes, for the same reason.
 pub struct Task {
-    pub(crate) domain: i32,
+    pub(crate) domain: i8,
+    pub(crate) priority: u8,
     pub(crate) wait: Wait,
 }
 
@@ -20,7 +22,13 @@ impl Task {
     pub fn domain(self) -> i32
         ensures { λ r. ⌜ r ≡ self .domain ⌝ }
     {
-        self.domain
+        self.domain as i32
+    }
+
+    pub fn priority(self) -> u32
+        ensures { λ r. ⌜ r ≡ self .priority ⌝ }
+    {
+        self.priority as u32
     }
 
     pub fn wait(self) -> Wait
@@ -35,6 +43,7 @@ impl Task {
     {
         Task {
             domain: self.domain,
+            priority: self.priority,
             wait,
         }
     }

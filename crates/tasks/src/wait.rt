@@ -6,7 +6,7 @@ ghost use Prim.Native.Nat.{ℕ, suc, _<_};
 ghost use lib.ListN.{length, getD};
 ghost use Rattle.model.specs.State.{place, samePlace, sideNumber, no};
 ghost use Rattle.model.specs.Waits.{waitersIn, firstTask, orWaits};
-ghost use Rattle.tasks.specs.View.{domainsOf, waitsOf, waiterOf, noTask};
+ghost use Rattle.tasks.specs.View.{entriesOf, waitsOf, waiterOf, noTask};
 ghost use Rattle.tasks.specs.Held.{Held, Free, isReady};
 ghost use Rattle.tasks.specs.Ends.{firstOf, taskIn, callerOf, endedOf, wokenOf};
 use crate::state::Tasks;
@@ -145,7 +145,7 @@ impl Tasks {
     // Who calls under a number: only a registered ready task may.
     pub fn caller(self, number: i32) -> Caller
         requires { ⌜ Held self ⌝ }
-        ensures { λ r. ⌜ r ≡ callerOf (domainsOf self) (waitsOf self) (no number) ⌝ }
+        ensures { λ r. ⌜ r ≡ callerOf (entriesOf self) (waitsOf self) (no number) ⌝ }
     {
         let ordinal = domain::ordinal(number, self.count);
         if ordinal == 0 {
@@ -155,15 +155,15 @@ impl Tasks {
         let entry = self.entries[task];
         let wait = entry.wait;
         match wait {
-            Wait::Ready => Caller::Ready(task, entry.domain),
+            Wait::Ready => Caller::Ready(task, entry.domain()),
             _ => Caller::Nobody,
         }
     }
 
     // A waiting task is released and handed a word; the caller gets E_OK and a word.
     pub fn wake(mut self, task: usize, word: u32, handed: u32) -> Ended
-        requires { ⌜ Held self × (task < length (domainsOf self)) ⌝ }
-        ensures { λ r. ⌜ r ≡ wokenOf (domainsOf self) (waitsOf self) task word handed ⌝ }
+        requires { ⌜ Held self × (task < length (entriesOf self)) ⌝ }
+        ensures { λ r. ⌜ r ≡ wokenOf (entriesOf self) (waitsOf self) task word handed ⌝ }
     {
         let number = task + 1;
         self = self.release(task);
@@ -182,8 +182,8 @@ impl Tasks {
 
     // The caller waits, if it has the patience.
     pub fn or_wait(self, task: usize, wait: Wait, patience: Patience) -> Ended
-        requires { ⌜ Held self × Free (domainsOf self) (waitsOf self) task × (isReady wait ≡ false) ⌝ }
-        ensures { λ r. ⌜ r ≡ endedOf (domainsOf self) (orWaits {R = ℕ} (waitsOf self) [] patience (waiterOf (suc task) wait)) ⌝ }
+        requires { ⌜ Held self × Free (entriesOf self) (waitsOf self) task × (isReady wait ≡ false) ⌝ }
+        ensures { λ r. ⌜ r ≡ endedOf (entriesOf self) (orWaits {R = ℕ} (waitsOf self) [] patience (waiterOf (suc task) wait)) ⌝ }
     {
         match patience {
             Patience::Polling => Ended {

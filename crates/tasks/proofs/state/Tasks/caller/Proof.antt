@@ -38,14 +38,18 @@ element-copy-out-entry c = let a = c .before .before in omega (arith, number (c 
 enum-told : tie.Need-enum-told
 enum-told c = search needs
 
+domain-requires : tie.Need-domain-requires
+domain-requires c κs = search needs
+
 returns-2 : tie.Need-returns-2
 returns-2 c =
-    let p = c .before .before .before .before .before in
+    let m = c .before .before in
+    let p = m .before .before .before in
     let b = p .before in
     let s = b .args .t1 in
-    let e : toZ w32 (ofZ w32 (getD (s .entries) (p .ordinal .result - 1) noTask .domain)) ≡ getD (s .entries) (p .ordinal .result - 1) noTask .domain = search needs in
-    ap (Caller.Ready (p .ordinal .result - 1)) e
-    ∙ caller-ready (b .pre) (b .args .number) (p .ordinal .result) (number p) (c .before .before .before .before .if1 .left) (idle (getD (s .entries) (p .ordinal .result - 1) noTask .wait) (c .before .before .match .keys1))
+    let e : toZ w32 (ofZ w32 (c .domain .result)) ≡ c .domain .result = search needs in
+    ap (Caller.Ready (p .ordinal .result - 1)) (e ∙ c .domain .ensures)
+    ∙ caller-ready (b .pre) (b .args .number) (p .ordinal .result) (number p) (m .before .before .if1 .left) (idle (getD (s .entries) (p .ordinal .result - 1) noTask .wait) (m .match .keys1))
 
 returns-3 : tie.Need-returns-3
 returns-3 c =
@@ -63,5 +67,6 @@ caller-spec =
     mul-entry
     element-copy-out-entry
     enum-told
+    domain-requires
     returns-2
     returns-3)
