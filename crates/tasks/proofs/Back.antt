@@ -1,12 +1,13 @@
 -- What is seen of the form is what it was made of. Assumes nothing.
-use Prim.Native.Nat.{ℕ, suc, _+_, _<_}
+use Prim.Native.Nat.{ℕ, zero, suc, _+_, _<_}
 use native.Mathlib.Omega.{arith}
-use mathlib.Core.Path.{_≡_, sym, ap, _∙_, subst₂}
+use mathlib.Core.Path.{_≡_, refl, sym, ap, _∙_, subst₂}
 use mathlib.Core.List.{List, map}
 use lib.ListN.{length, getD, take, length-map}
 use Rattle.arrays.specs.Pad.{pad}
 use Rattle.arrays.proofs.Pads.{pad-get, pad-take, pad-length}
 use Rattle.itron.specs.Limits.{maxTasks}
+use Rattle.model.specs.Lists.{at}
 use Rattle.model.specs.State.{TaskEntry, Waiter, noTask as noEntry}
 use Rattle.model.specs.Conditions.{WaitsFit}
 use Rattle.model.proofs.Fits.{few}
@@ -15,7 +16,7 @@ use Rattle.tasks.specs.declared.state.Tasks.{Tasks}
 use Rattle.tasks.specs.View.{noTask, waiterAt, entryOf, entriesOf, waitsOf}
 use Rattle.tasks.specs.Form.{taskAs, tasksAs, tasksFrom, waitFor, indexIn}
 use Rattle.tasks.specs.Held.{Held}
-use Rattle.tasks.proofs.Entries.{entries-length, entries-seen, entries-get, waiters-back}
+use Rattle.tasks.proofs.Entries.{entries-length, entries-seen, entries-get, entries-priority, waiters-back}
 
 -- the entry of a task in the form
 pub entry-at : (es : List TaskEntry) (ws : List Waiter) (i : ℕ) → i < length es → getD (pad maxTasks noTask (tasksFrom 0 es ws)) i noTask ≡ taskAs (getD es i noEntry) (waitFor (suc i) ws)
@@ -63,6 +64,14 @@ module _ {t : Tasks} (h : Held t) where
   pub entry-seen : (i : ℕ) → i < length (entriesOf t) → getD (t .entries) i noTask ≡ taskAs (getD (entriesOf t) i noEntry) (waitFor (suc i) (waitsOf t))
   unfolding tasksAs
   entry-seen i l = ap (λ (x : Tasks). getD (x .entries) i noTask) (h .form) ∙ entry-at (entriesOf t) (waitsOf t) i l
+
+  -- the priority of any task, and of none
+  pub priority-seen : (n : ℕ) → at noTask (t .entries) n .priority ≡ at noEntry (entriesOf t) n .priority
+  unfolding tasksAs
+  priority-seen zero = refl
+  priority-seen (suc i) =
+      ap (λ (x : Tasks). getD (x .entries) i noTask .priority) (h .form)
+      ∙ ap (λ (x : Task). x .priority) (pad-get noTask maxTasks (tasksFrom 0 (entriesOf t) (waitsOf t)) i) ∙ entries-priority 0 (entriesOf t) (waitsOf t) i
 
   pub entries-long : length (t .entries) ≡ maxTasks
   unfolding tasksAs

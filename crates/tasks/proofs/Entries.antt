@@ -30,6 +30,11 @@ entries-get n (d ∷ es) l (suc i) h =
     let e : suc n + i ≡ n + suc i = omega arith in
     entries-get (suc n) es l i (omega arith) ∙ (λ j. taskAs (getD es i noEntry) (waitFor (suc (e j)) l))
 
+pub entries-priority : (n : ℕ) (es : List TaskEntry) (l : List Waiter) (i : ℕ) → getD (tasksFrom n es l) i noTask .priority ≡ getD es i noEntry .priority
+entries-priority n [] l i = refl
+entries-priority n (d ∷ es) l zero = refl
+entries-priority n (d ∷ es) l (suc i) = entries-priority (suc n) es l i
+
 -- one task does something else
 pub entries-set : (n : ℕ) (es : List TaskEntry) (l l′ : List Waiter) (i : ℕ) (w : Wait) → i < length es → waitFor (suc (n + i)) l′ ≡ w → ((u : ℕ) → u ≢ suc (n + i) → waitFor u l′ ≡ waitFor u l)
     → set (tasksFrom n es l) i (taskAs (getD es i noEntry) w) ≡ tasksFrom n es l′

@@ -5,6 +5,7 @@ pub mod Back
 pub mod Changes
 pub mod Places
 pub mod Waiters
+pub mod Leads
 pub mod Firsts
 pub mod Callers
 pub mod Ends

@@ -1,6 +1,7 @@
 -- How a call on an object of any room ends, from what the functions on the tasks give. Assumes nothing.
 use Prim.Native.Nat.{ℕ}
 use mathlib.Core.Path.{_≡_, refl, sym, _∙_}
+use mathlib.Core.Bool.{Bool}
 use mathlib.Core.List.{List, [], _∷_}
 use Rattle.itron.specs.Codes.{Err, ok, okNumber, numberOf}
 use Rattle.model.specs.State.{TaskEntry, Waiter, Place}
@@ -41,7 +42,7 @@ module _ {R P E : Type 0} (form : List R → P) (made : Reply → Info → Tasks
     tells-by i = same-tasks (plain okNumber 0) i
 
     -- the first at a place is released
-    pub wakes-by : {p : Place} {i w : ℕ} (y : Waits ts p i w) (word handed : ℕ) (e : Ended) → e ≡ wokenOf (entriesOf ts) (waitsOf ts) i word handed
+    pub wakes-by : {b : Bool} {p : Place} {i w : ℕ} (y : Waits ts b p i w) (word handed : ℕ) (e : Ended) → e ≡ wokenOf (entriesOf ts) (waitsOf ts) i word handed
         → beside e q ≡ effectBy (entriesOf ts) (wakes (waitsOf ts) xs (y .entry) word handed)
     wakes-by y word handed e r =
         let n = sym (y .task) in

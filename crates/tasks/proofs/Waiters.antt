@@ -48,11 +48,11 @@ module _ (ts : List Task) (p : Place) where
         ∙ ap (λ (j : ℕ). getD o i 0 ∷ drop j (take w o)) (sym (add-one i))
 
     -- one who stands elsewhere is passed over
-    pub pass : (k : ℕ) → standsIn (getD o i 0) ≡ false → getD (numbersFrom o w i) k 0 ≡ getD (numbersFrom o w (i + 1)) k 0
-    pass k e = ap (λ (l : List ℕ). getD (numbersOf l) k 0) next ∙ rw (stands (getD o i 0) false e)
+    pub pass : standsIn (getD o i 0) ≡ false → numbersFrom o w i ≡ numbersFrom o w (i + 1)
+    pass e = ap numbersOf next ∙ rw (stands (getD o i 0) false e)
 
     module _ (e : standsIn (getD o i 0) ≡ true) where
-      here : numbersFrom o w i ≡ suc (getD o i 0) ∷ numbersFrom o w (i + 1)
+      pub here : numbersFrom o w i ≡ suc (getD o i 0) ∷ numbersFrom o w (i + 1)
       here =
           let x = getD o i 0 in
           ap numbersOf next ∙ rw (stands x true e) (ap (λ (y : ℕ). y ∷ numbersFrom o w (i + 1)) (task-any (suc x) (getD ts x noTask .wait)))

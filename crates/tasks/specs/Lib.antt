@@ -2,4 +2,5 @@ pub mod View
 pub mod Form
 pub mod Held
 pub mod Orders
+pub mod Leads
 pub mod Ends

@@ -1,14 +1,16 @@
 // Wait queues: who is first at a place, who calls, who is woken and who begins to wait.
 ghost use mathlib.Core.Path.{_≡_};
-ghost use mathlib.Core.Bool.{false};
+ghost use mathlib.Core.Bool.{true, false};
 ghost use mathlib.Core.List.{[], map};
 ghost use Prim.Native.Nat.{ℕ, suc, _<_};
 ghost use lib.ListN.{length, getD};
 ghost use Rattle.model.specs.State.{place, samePlace, sideNumber, no};
-ghost use Rattle.model.specs.Waits.{waitersIn, firstTask, orWaits};
+ghost use Rattle.model.specs.Waits.{waitersIn, standing, firstTask, orWaits};
 ghost use Rattle.tasks.specs.View.{entriesOf, waitsOf, waiterOf, noTask};
 ghost use Rattle.tasks.specs.Held.{Held, Free, isReady};
 ghost use Rattle.tasks.specs.Ends.{firstOf, taskIn, callerOf, endedOf, wokenOf};
+use crate::lead;
+use crate::lead::Lead;
 use crate::state::Tasks;
 use crate::task::Task;
 use crate::task::Wait;
@@ -95,8 +97,8 @@ pub(crate) fn word_of(wait: Wait) -> u32
 }
 
 impl Tasks {
-    // The number of the one who waits at a place with k ahead of it; 0 if no more than k do.
-    pub fn waiter(self, side: Side, object: usize, k: usize) -> usize
+    // The number of the one who waits at a place and came with k ahead of it; 0 if no more than k do.
+    pub(crate) fn arrived(self, side: Side, object: usize, k: usize) -> usize
         requires { ⌜ Held self ⌝ }
         ensures { λ r. ⌜ r ≡ getD (map taskIn (waitersIn (waitsOf self) (place side (suc object)))) k 0 ⌝ }
     {
@@ -119,12 +121,67 @@ impl Tasks {
         0
     }
 
-    // The first who waits at a place.
-    pub fn first(self, side: Side, object: usize) -> First
+    // The number of the most urgent who waits at a place, of equals the one who came first; 0 if nobody does.
+    pub(crate) fn most_urgent(self, side: Side, object: usize) -> usize
         requires { ⌜ Held self ⌝ }
-        ensures { λ r. ⌜ r ≡ firstOf (waitersIn (waitsOf self) (place side (suc object))) ⌝ }
+        ensures { λ r. ⌜ r ≡ firstTask (standing true (entriesOf self) (waitersIn (waitsOf self) (place side (suc object)))) ⌝ }
     {
-        let number = self.waiter(side, object, 0);
+        let entries = self.entries;
+        let order = self.order;
+        let waiting = self.waiting;
+        let mut lead = Lead {
+            number: 0,
+            priority: 0,
+        };
+        let mut i = 0;
+        while i < waiting {
+            let task = order[i] as usize;
+            let wait = wait_of(entries, task);
+            if waits_at(wait, side, object) {
+                let number = task + 1;
+                lead = lead.against(number, lead::priority_of(entries, task));
+            }
+            i += 1;
+        }
+        lead.number
+    }
+
+    // The number of the one who stands at a place by priority with k ahead of it; 0 if no more than k do.
+    pub(crate) fn ranked(mut self, side: Side, object: usize, k: usize) -> usize
+        requires { ⌜ Held self ⌝ }
+        ensures { λ r. ⌜ r ≡ getD (map taskIn (standing true (entriesOf self) (waitersIn (waitsOf self) (place side (suc object))))) k 0 ⌝ }
+    {
+        let mut ahead = k;
+        while 0 < ahead {
+            let number = self.most_urgent(side, object);
+            if number == 0 {
+                return 0;
+            }
+            // Who is ahead leaves the copy that is searched.
+            let task = number - 1;
+            self = self.release(task);
+            ahead -= 1;
+        }
+        self.most_urgent(side, object)
+    }
+
+    // The number of the one who stands at a place with k ahead of it, by priority or as they came; 0 if no more than k do.
+    pub fn waiter(self, side: Side, object: usize, by_priority: bool, k: usize) -> usize
+        requires { ⌜ Held self ⌝ }
+        ensures { λ r. ⌜ r ≡ getD (map taskIn (standing «by_priority» (entriesOf self) (waitersIn (waitsOf self) (place side (suc object))))) k 0 ⌝ }
+    {
+        if by_priority {
+            return self.ranked(side, object, k);
+        }
+        self.arrived(side, object, k)
+    }
+
+    // The first who stands at a place, by priority or as they came.
+    pub fn first(self, side: Side, object: usize, by_priority: bool) -> First
+        requires { ⌜ Held self ⌝ }
+        ensures { λ r. ⌜ r ≡ firstOf (standing «by_priority» (entriesOf self) (waitersIn (waitsOf self) (place side (suc object)))) ⌝ }
+    {
+        let number = self.first_number(side, object, by_priority);
         if number == 0 {
             return First::Nobody;
         }
@@ -134,12 +191,15 @@ impl Tasks {
         First::Waiter(task, word_of(wait))
     }
 
-    // The number of the first who waits at a place; 0 if nobody does.
-    pub fn first_number(self, side: Side, object: usize) -> usize
+    // The number of the first who stands at a place, by priority or as they came; 0 if nobody does.
+    pub fn first_number(self, side: Side, object: usize, by_priority: bool) -> usize
         requires { ⌜ Held self ⌝ }
-        ensures { λ r. ⌜ r ≡ firstTask (waitersIn (waitsOf self) (place side (suc object))) ⌝ }
+        ensures { λ r. ⌜ r ≡ firstTask (standing «by_priority» (entriesOf self) (waitersIn (waitsOf self) (place side (suc object)))) ⌝ }
     {
-        self.waiter(side, object, 0)
+        if by_priority {
+            return self.most_urgent(side, object);
+        }
+        self.arrived(side, object, 0)
     }
 
     // Who calls under a number: only a registered ready task may.

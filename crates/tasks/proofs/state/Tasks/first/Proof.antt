@@ -8,14 +8,14 @@ use Rattle.tasks.proofs.Firsts.{first-none, first-found}
 use Rattle.tasks.proofs.state.Tasks.first.Statement.{statement}
 use Rattle.tasks.proofs.state.Tasks.first.Tie as tie
 
-waiter-requires : tie.Need-waiter-requires
-waiter-requires c κs = search needs
+first-number-requires : tie.Need-first-number-requires
+first-number-requires c κs = search needs
 
 returns : tie.Need-returns
 returns c =
     let p = c .before in
     let a = p .before .args in
-    first-none (p .before .pre) (place (a .side) (suc (a .object))) (p .waiter .result) (p .waiter .ensures) (c .if1 .taken)
+    first-none (p .before .pre) (a .«by-priority») (place (a .side) (suc (a .object))) (p .first-number .result) (p .first-number .ensures) (c .if1 .taken)
 
 sub-task : tie.Need-sub-task
 sub-task c = search needs
@@ -31,9 +31,9 @@ returns-2 c =
     let q = c .before .before .before in
     let p = q .before in
     let a = p .before .args in
-    ap (Waiter (p .waiter .result - 1)) (cc) ∙ first-found (p .before .pre) (place (a .side) (suc (a .object))) (p .waiter .result) (p .waiter .ensures) (q .if1 .left)
+    ap (Waiter (p .first-number .result - 1)) (cc) ∙ first-found (p .before .pre) (a .«by-priority») (place (a .side) (suc (a .object))) (p .first-number .result) (p .first-number .ensures) (q .if1 .left)
 
 pub first-spec : {M : Type 1} → statement M
 first-spec =
     tie.close
-    (tie.spec waiter-requires returns sub-task wait-of-requires word-of-requires returns-2)
+    (tie.spec first-number-requires returns sub-task wait-of-requires word-of-requires returns-2)

@@ -1,0 +1,121 @@
+-- The first by rank, found along a list: who comes later leads only if it ranks lower. Assumes nothing.
+use Prim.Native.Nat.{ℕ, zero, suc, _≤_, _<_}
+use native.Mathlib.Omega.{arith}
+use mathlib.Core.Path.{_≡_, refl, sym, ap, _∙_}
+use mathlib.Core.Bool.{Bool, true, false, cond}
+use mathlib.Core.List.{List, [], _∷_, map}
+use lib.Dec.{eqb, ltb, leb}
+use lib.ListN.{getD}
+use borrow.Author.Tests.{leb-true, leb-false, lt-ltb, le-ltb, le-leb, lt-leb, ne-eqb}
+use Rattle.model.specs.Lists.{insert, arrange}
+use Rattle.tasks.specs.declared.lead.Lead.{Lead}
+use Rattle.tasks.specs.Leads.{lead, leadOf}
+
+-- ---- of any list
+module _ {A : Type 0} (rank : A → ℕ) (d : A) where
+  abbrev front : List A → A
+  front l = getD l 0 d
+
+  abbrev lower : A → A → A
+  lower b x = cond (ltb (rank x) (rank b)) x b
+
+  front-insert : (x y : A) (l : List A) → front (insert rank x (y ∷ l)) ≡ cond (leb (rank x) (rank y)) x y
+  front-insert x y l = go (leb (rank x) (rank y))
+    where
+      go : (c : Bool) → front (cond c (x ∷ (y ∷ l)) (y ∷ insert rank x l)) ≡ cond c x y
+      go true = refl
+      go false = refl
+
+  -- ahead of one that ranks no lower, behind one that does
+  ahead : (x y : A) (l : List A) → rank x ≤ rank y → front (insert rank x (y ∷ l)) ≡ x
+  ahead x y l h = front-insert x y l ∙ ap (λ (c : Bool). cond c x y) (le-leb (rank x) (rank y) h)
+
+  behind : (x y : A) (l : List A) → rank y < rank x → front (insert rank x (y ∷ l)) ≡ y
+  behind x y l h = front-insert x y l ∙ ap (λ (c : Bool). cond c x y) (lt-leb (rank x) (rank y) h)
+
+  -- the first of all that follow two is the first of all that follow the lower of them
+  first-two : (b x : A) (l : List A) → front (insert rank b (insert rank x l)) ≡ front (insert rank (lower b x) l)
+  first-two b x l = go (leb (rank b) (rank x)) refl
+    where
+      stays : (l : List A) → rank b ≤ rank x → front (insert rank b (insert rank x l)) ≡ front (insert rank b l)
+      stays [] h = ahead b x [] h
+      stays (y ∷ l) h = next (leb (rank x) (rank y)) refl
+        where
+          next : (c : Bool) → leb (rank x) (rank y) ≡ c → front (insert rank b (cond c (x ∷ (y ∷ l)) (y ∷ insert rank x l))) ≡ front (insert rank b (y ∷ l))
+          next true e = ahead b x (y ∷ l) h ∙ sym (ahead b y l (omega (arith, h, leb-true (rank x) (rank y) e)))
+          next false e = front-insert b y (insert rank x l) ∙ sym (front-insert b y l)
+
+      yields : (l : List A) → rank x < rank b → front (insert rank b (insert rank x l)) ≡ front (insert rank x l)
+      yields [] h = behind b x [] h
+      yields (y ∷ l) h = next (leb (rank x) (rank y)) refl
+        where
+          next : (c : Bool) → leb (rank x) (rank y) ≡ c → front (insert rank b (cond c (x ∷ (y ∷ l)) (y ∷ insert rank x l))) ≡ front (cond c (x ∷ (y ∷ l)) (y ∷ insert rank x l))
+          next true e = behind b x (y ∷ l) h
+          next false e = behind b y (insert rank x l) (omega (arith, h, leb-false (rank x) (rank y) e))
+
+      go : (c : Bool) → leb (rank b) (rank x) ≡ c → front (insert rank b (insert rank x l)) ≡ front (insert rank (lower b x) l)
+      go true e =
+          let h = leb-true (rank b) (rank x) e in
+          stays l h ∙ ap (λ (c : Bool). front (insert rank (cond c x b) l)) (sym (le-ltb (rank x) (rank b) h))
+      go false e =
+          let h = leb-false (rank b) (rank x) e in
+          yields l h ∙ ap (λ (c : Bool). front (insert rank (cond c x b) l)) (sym (lt-ltb (rank x) (rank b) h))
+
+-- arranged by what a function shows
+pub map-arrange : {A B : Type 0} (f : A → B) (rank : B → ℕ) (l : List A) → map f (arrange (λ (x : A). rank (f x)) l) ≡ arrange rank (map f l)
+map-arrange {A} {B} f rank [] = refl
+map-arrange {A} {B} f rank (x ∷ l) = put-in (arrange (λ (x : A). rank (f x)) l) ∙ ap (insert rank (f x)) (map-arrange f rank l)
+  where
+    put-in : (l : List A) → map f (insert (λ (x : A). rank (f x)) x l) ≡ insert rank (f x) (map f l)
+    put-in [] = refl
+    put-in (y ∷ l) = go (leb (rank (f x)) (rank (f y))) (put-in l)
+      where
+        go : (c : Bool) → map f (insert (λ (x : A). rank (f x)) x l) ≡ insert rank (f x) (map f l)
+            → map f (cond c (x ∷ (y ∷ l)) (y ∷ insert (λ (x : A). rank (f x)) x l)) ≡ cond c (f x ∷ (f y ∷ map f l)) (f y ∷ insert rank (f x) (map f l))
+        go true e = refl
+        go false e = ap (λ (m : List B). f y ∷ m) e
+
+-- ---- of numbers from 1, where 0 is nobody
+module _ (rank : ℕ → ℕ) where
+  -- who leads with its rank
+  abbrev pub leads : ℕ → Lead
+  leads n = lead n (rank n)
+
+  -- who leads, ahead of those who are left
+  abbrev pub led : ℕ → List ℕ → List ℕ
+  led zero l = l
+  led (suc n) l = suc n ∷ l
+
+  abbrev pub firstBy : List ℕ → ℕ
+  firstBy l = getD (arrange rank l) 0 0
+
+  own : (b x : ℕ) → leadOf (leads b) x (rank x) ≡ leads (leadOf (leads b) x (rank x) .number)
+  own b x = go (eqb b 0) (ltb (rank x) (rank b))
+    where
+      go : (c e : Bool) → cond c (leads x) (cond e (leads x) (leads b)) ≡ leads (cond c (leads x) (cond e (leads x) (leads b)) .number)
+      go true e = refl
+      go false true = refl
+      go false false = refl
+
+  step : (b x : ℕ) (l : List ℕ) → firstBy (led b (suc x ∷ l)) ≡ firstBy (led (leadOf (leads b) (suc x) (rank (suc x)) .number) l)
+  step zero x l = refl
+  step (suc b) x l = first-two rank 0 (suc b) (suc x) (arrange rank l) ∙ rw (ne-eqb (suc b) 0 (λ q. omega arith)) (go (ltb (rank (suc x)) (rank (suc b))))
+    where
+      go : (c : Bool) → getD (insert rank (cond c (suc x) (suc b)) (arrange rank l)) 0 0 ≡ firstBy (led (cond c (leads (suc x)) (leads (suc b)) .number) l)
+      go true = refl
+      go false = refl
+
+  -- one more comes: who leads has its rank, and is first of those who are left
+  module _ (a r : Lead) (x : ℕ) (e : a ≡ leads (a .number)) (f : r ≡ leadOf a (suc x) (rank (suc x))) where
+    next : r ≡ leadOf (leads (a .number)) (suc x) (rank (suc x))
+    next = f ∙ ap (λ (y : Lead). leadOf y (suc x) (rank (suc x))) e
+
+    pub lead-own : r ≡ leads (r .number)
+    lead-own = next ∙ own (a .number) (suc x) ∙ ap (λ (y : Lead). leads (y .number)) (sym next)
+
+    pub lead-step : (l : List ℕ) → firstBy (led (a .number) (suc x ∷ l)) ≡ firstBy (led (r .number) l)
+    lead-step l = step (a .number) x l ∙ ap (λ (y : Lead). firstBy (led (y .number) l)) (sym next)
+
+  pub lead-last : (b : ℕ) → firstBy (led b []) ≡ b
+  lead-last zero = refl
+  lead-last (suc b) = refl

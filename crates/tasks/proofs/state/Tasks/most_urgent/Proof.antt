@@ -1,0 +1,126 @@
+-- `Tasks::most_urgent` meets its contract. The loop's invariant: the first by rank is the first of who leads and those who are left. Assumes nothing.
+use borrow.Author.Needs.{needs}
+use Prim.Native.Nat.{ℕ, suc, _+_, _≤_, _-_}
+use native.Mathlib.Omega.{arith}
+use native.Mathlib.Numerals.{add-one}
+use mathlib.Core.Path.{_≡_, refl, sym, ap, _∙_}
+use mathlib.Core.Logic.{⊎-elim}
+use mathlib.Core.List.{List}
+use lib.ListN.{length, getD}
+use Rattle.itron.specs.Limits.{maxTasks}
+use Rattle.model.specs.Lists.{at}
+use Rattle.model.specs.State.{place}
+use Rattle.tasks.specs.declared.task.Task.{Task}
+use Rattle.tasks.specs.declared.lead.Lead.{Lead}
+use Rattle.tasks.specs.View.{noTask, waitsOf}
+use Rattle.tasks.specs.Leads.{leadOf}
+use Rattle.tasks.proofs.Back.{entries-long}
+use Rattle.tasks.proofs.Waiters.{numbersFrom, none-left, pass, here, stands-low}
+use Rattle.tasks.proofs.Leads.{leads, led, firstBy, lead-own, lead-step, lead-last}
+use Rattle.tasks.proofs.Firsts.{first-ranked}
+use Rattle.tasks.proofs.state.Tasks.most_urgent.Statement.{statement}
+use Rattle.tasks.proofs.state.Tasks.most_urgent.Tie as tie
+
+abbrev rankIn : List Task → ℕ → ℕ
+rankIn ts n = at noTask ts n .priority
+
+abbrev Inv-loop : tie.InvT-loop
+Inv-loop side object entries order waiting lead₀ i₀ lead i =
+    (i ≤ waiting) × (waiting ≤ maxTasks) × (lead ≡ leads (rankIn entries) (lead .number))
+    × (firstBy (rankIn entries) (numbersFrom entries (place side (suc object)) order waiting 0)
+    ≡ firstBy (rankIn entries) (led (rankIn entries) (lead .number) (numbersFrom entries (place side (suc object)) order waiting i)))
+
+abbrev μ-loop : tie.MeasureT-loop
+μ-loop side object entries order waiting lead₀ i₀ lead i = waiting - i
+
+loop-holds : tie.Need-loop-holds Inv-loop μ-loop
+loop-holds c = (omega arith, c .before .before .pre .room, refl, refl)
+
+array-read-task : tie.Need-array-read-task Inv-loop μ-loop
+array-read-task c = omega arith
+
+cast-task : tie.Need-cast-task Inv-loop μ-loop
+cast-task c = search needs
+
+wait-of-requires : tie.Need-wait-of-requires Inv-loop μ-loop
+wait-of-requires c κs = tt
+
+waits-at-requires : tie.Need-waits-at-requires Inv-loop μ-loop
+waits-at-requires c κs = tt
+
+add-number : tie.Need-add-number Inv-loop μ-loop
+add-number c =
+    let b = c .before .before .before in
+    let s = b .before .before .before .before in
+    let a = s .args in
+    let l = entries-long (s .pre) in
+    let h = stands-low (a .self .entries) (a .side) (a .object) (getD (a .self .order) (b .before .loop .i) 0) (cc) in
+    omega arith
+
+priority-of-requires : tie.Need-priority-of-requires Inv-loop μ-loop
+priority-of-requires c κs = tt
+
+against-requires : tie.Need-against-requires Inv-loop μ-loop
+against-requires c κs = tt
+
+add-i : tie.Need-add-i Inv-loop μ-loop
+add-i c = omega arith
+
+loop-less : tie.Need-loop-less Inv-loop μ-loop
+loop-less c = omega arith
+
+loop-again : tie.Need-loop-again Inv-loop μ-loop
+loop-again c =
+    let s = c .before .before .before .before in
+    let a = s .before .before .before .args in
+    let v = s .loop .inv in
+    let i = s .loop .i in
+    let x = getD (a .self .order) i 0 in
+    let es = a .self .entries in
+    let r = rankIn es in
+    let p = place (a .side) (suc (a .object)) in
+    let n = numbersFrom es p (a .self .order) (a .self .waiting) in
+    let l : length (a .self .order) ≡ maxTasks = search needs in
+    let m : (c .if1 .lead ≡ leads r (c .if1 .lead .number)) × (firstBy r (led r (s .loop .lead .number) (n i)) ≡ firstBy r (led r (c .if1 .lead .number) (n (i + 1)))) =
+    ⊎-elim (λ w.
+    let f = w .3 ∙ w .2 .ensures ∙ (λ j. leadOf (s .loop .lead) (add-one x j) (w .1 .ensures j)) in
+    let h = here es p (a .self .order) (a .self .waiting) i (omega arith) (omega arith) (cc) in
+    (lead-own r (s .loop .lead) (c .if1 .lead) x (v .2) f, ap (λ (l : List ℕ). firstBy r (led r (s .loop .lead .number) l)) h ∙ lead-step r (s .loop .lead) (c .if1 .lead) x (v .2) f (n (i + 1))))
+    (λ w.
+    let h = pass es p (a .self .order) (a .self .waiting) i (omega arith) (omega arith) (cc) in
+    let e : s .loop .lead ≡ c .if1 .lead = sym (w .1) in
+    (w .1 ∙ v .2 ∙ ap (λ (y : Lead). leads r (y .number)) e, λ j. firstBy r (led r (e j .number) (h j))))
+    (c .if1 .came) in
+    (omega arith, omega arith, m .0, v .3 ∙ m .1)
+
+returns : tie.Need-returns Inv-loop μ-loop
+unfolding waitsOf
+returns c =
+    let b = c .before in
+    let s = b .before .before .before in
+    let a = s .args in
+    let r = rankIn (a .self .entries) in
+    let p = place (a .side) (suc (a .object)) in
+    let v = b .loop .inv in
+    let n : b .loop .i ≡ a .self .waiting = omega arith in
+    sym (first-ranked (s .pre) p ∙ v .3
+    ∙ ap (λ (j : ℕ). firstBy r (led r (b .loop .lead .number) (numbersFrom (a .self .entries) p (a .self .order) (a .self .waiting) j))) n
+    ∙ ap (λ (l : List ℕ). firstBy r (led r (b .loop .lead .number) l)) (none-left (a .self .entries) p (a .self .order) (a .self .waiting))
+    ∙ lead-last r (b .loop .lead .number))
+
+pub most-urgent-spec : {M : Type 1} → statement M
+most-urgent-spec =
+    tie.close
+    (tie.spec
+    Inv-loop
+    μ-loop
+    loop-holds
+    array-read-task
+    cast-task wait-of-requires
+    waits-at-requires
+    add-number priority-of-requires
+    against-requires
+    add-i
+    loop-less
+    loop-again
+    returns)
