@@ -35,13 +35,13 @@ use Rattle.kernel.specs.Promises.{Does, Begins, Enters}
 -- what is seen of the form of a state within the limits is that state
 pub back : (m : Model.State) → Fit m → viewOf (stateOf m) ≡ m
 back m f =
-    let d = TasksBack.back-domains (m .fixed .domains) (m .waits) (f .waits) in
-    let w = TasksBack.back-waits (m .fixed .domains) (m .waits) (f .waits) in
+    let d = TasksBack.back-entries (m .fixed .tasks) (m .waits) (f .waits) in
+    let w = TasksBack.back-waits (m .fixed .tasks) (m .waits) (f .waits) in
     let x = SemsBack.back-sems (m .sems) in
     let q = QueuesBack.back-queues (m .queues) (f .queues) in
     let u = RegionsBack.back-unit (m .fixed .unit) (m .fixed .regions) in
     let r = RegionsBack.back-regions (m .fixed .unit) (m .fixed .regions) in
-    λ i. record { fixed = record { closed = m .fixed .closed; count = m .fixed .count; unit = u i; domains = d i; regions = r i }; waits = w i; sems = x i; queues = q i }
+    λ i. record { fixed = record { closed = m .fixed .closed; count = m .fixed .count; unit = u i; tasks = d i; regions = r i }; waits = w i; sems = x i; queues = q i }
 
 pub valid-form : (m : Model.State) → Sound m → Valid (stateOf m)
 valid-form m k =
@@ -55,7 +55,7 @@ faithful v v′ e = v .form ∙ ap stateOf e ∙ sym (v′ .form)
 -- ---- the parts of a valid state are held
 module _ {s : State} (v : Valid s) where
   pub tasks-held : TasksHeld.Held (s .tasks)
-  tasks-held = subst (λ (t : Tasks). TasksHeld.Held t) (sym (ap (λ (x : State). x .tasks) (v .form))) (TasksBack.held-as (viewOf s .fixed .domains) (viewOf s .waits) (v .sound .fit .waits))
+  tasks-held = subst (λ (t : Tasks). TasksHeld.Held t) (sym (ap (λ (x : State). x .tasks) (v .form))) (TasksBack.held-as (viewOf s .fixed .tasks) (viewOf s .waits) (v .sound .fit .waits))
 
   pub sems-held : SemsHeld.Held (s .semaphores)
   sems-held = subst (λ (t : Semaphores). SemsHeld.Held t) (sym (ap (λ (x : State). x .semaphores) (v .form))) (SemsBack.held-as (viewOf s .sems) (v .sound .fit .sems))

@@ -20,7 +20,9 @@ use Rattle.model.specs.Regions.{judge}
 use Rattle.model.specs.Verdict.{verdict}
 use Rattle.model.proofs.Lists.{and-left, no-both}
 use Rattle.model.proofs.Table.{taken}
-use Rattle.model.specs.Table.{Entry, task, queue, owns, ownsTask, testsOf, checkEntry, add, enterBy, enter, emptyState, fresh, closeBy, close}
+use Rattle.model.specs.Conditions.{TaskOwner, TaskEntryFits}
+use Rattle.model.proofs.Entries.{told}
+use Rattle.model.specs.Table.{Entry, task, queue, owns, ownsTask, testsOf, checkEntry, newTask, add, enterBy, enter, emptyState, fresh, closeBy, close}
 use Rattle.kernel.specs.declared.state.State.{State}
 use Rattle.kernel.specs.declared.state.Entered.{Entered}
 use Rattle.kernel.specs.View.{viewOf}
@@ -143,10 +145,22 @@ module _ {s : State} (v : Valid s) where
   unfolding close
   close-once h = ap (λ (x : State). entered okNumber (shut x)) (v .form) ∙ ap (λ (b : Bool). enteredOf (closeBy b (viewOf s))) (sym h)
 
--- ---- what a taken entry has passed: its kind had room; a task's table is open, and a queue's words are within their limit
+-- ---- what a taken entry has passed: its kind had room; a task's table is open, its domain is one of n and its priority is one; a queue's words are within their limit
 module _ (m : Model.State) where
-  pub task-room : (d : ℤ) → checkEntry m (task d) ≡ none → (length (m .fixed .domains) < maxTasks) × (m .fixed .closed ≡ false)
-  task-room d h = let t = taken m (task d) h in (ltb-true (length (m .fixed .domains)) maxTasks (t .room), t .opened)
+  pub task-room : (d : ℤ) (p : ℕ) → checkEntry m (task d p) ≡ none → (length (m .fixed .tasks) < maxTasks) × (m .fixed .closed ≡ false)
+  task-room d p h = let t = taken m (task d p) h in (ltb-true (length (m .fixed .tasks)) maxTasks (t .room), t .opened)
+
+  pub task-fits : m .fixed .count ≤ maxDomains → (d : ℤ) (p : ℕ) → checkEntry m (task d p) ≡ none → TaskEntryFits maxDomains (newTask d p)
+  task-fits c d p h =
+      let t = taken m (task d p) h in
+      let g = told m (task d p) in
+      let n = g .numbers .yes (t .numbers) in
+      (wider d (g .owned .yes (t .owner)), n .0, n .1)
+    where
+      wider : (d : ℤ) → TaskOwner (m .fixed .count) d → TaskOwner maxDomains d
+      wider (pos k) o = (o .0, omega (arith, o .1, c))
+      wider (negsuc zero) o = o
+      wider (negsuc (suc k)) o = o
 
   pub room-of : (i : Entry) (used most : ℕ) → testsOf m i .hasRoom ≡ ltb used most → checkEntry m i ≡ none → used < most
   room-of i used most e h = ltb-true used most (sym e ∙ taken m i h .room)

@@ -37,7 +37,7 @@ pub record Part {C R : Type 0} (r : Room C R) (E : Type 0) (s : State) : Type 0 
   pub answer : E → Answer
   -- a refusal leaves everything as it was; an effect is the rules' effect
   pub refused : (a : Act C) (d : ℤ) → answer (acted a (Refused d)) ≡ answered (plain d 0) noInfo s
-  pub does : (a : Act C) (t o : ℕ) → answer (acted a (Admitted t o)) ≡ answerOf (onRecords r (viewOf s) (actOn r (viewOf s .waits) (r .records (viewOf s)) (suc t) (suc o) a))
+  pub does : (a : Act C) (t o : ℕ) → answer (acted a (Admitted t o)) ≡ answerOf (onRecords r (viewOf s) (actOn r (viewOf s .fixed .tasks) (viewOf s .waits) (r .records (viewOf s)) (suc t) (suc o) a))
 
 module _ {s : State} (v : Valid s) where
   abbrev pub semaphores : Part Semaphores.room SemaphoreEffect.Effect s
@@ -72,7 +72,7 @@ module _ {s : State} (v : Valid s) {C R : Type 0} {r : Room C R} {E : Type 0} (p
       let x = admission r s z n a t o h in
       let t = sym (x .task) in
       let o = sym (x .object) in
-      p .does a _ _ ∙ (λ i. answerOf (onRecords r (viewOf s) (actOn r (viewOf s .waits) (r .records (viewOf s)) (t i) (o i) a))) ∙ ap by (sym (x .found))
+      p .does a _ _ ∙ (λ i. answerOf (onRecords r (viewOf s) (actOn r (viewOf s .fixed .tasks) (viewOf s .waits) (r .records (viewOf s)) (t i) (o i) a))) ∙ ap by (sym (x .found))
 
   pub on-part : (op : Op) → asks op ≡ onObject r n a → {x : E} {q : Answer} → x ≡ p .acted a (checkOf r s z n a) → q ≡ p .answer x → Does s (call z op) q
   unfolding step

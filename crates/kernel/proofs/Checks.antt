@@ -97,7 +97,7 @@ module _ {C R : Type 0} (r : Room C R) (s : State) (z n : ℤ) (a : Act C) where
 
   -- a call that they admit: who calls is ready, and the object is there
   pub record Admission (t o : ℕ) : Type 0 where
-    pub free : Free (viewOf s .fixed .domains) (viewOf s .waits) t
+    pub free : Free (viewOf s .fixed .tasks) (viewOf s .waits) t
     pub there : o < length (r .records (viewOf s))
     pub task : no z ≡ suc t
     pub object : no n ≡ suc o

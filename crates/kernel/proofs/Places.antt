@@ -7,9 +7,10 @@ use lib.ListN.{getD}
 use Rattle.model.specs.Lists.{All, consIf, keep}
 use Rattle.model.specs.State.{Waiter, State, place, sameSide}
 use Rattle.model.specs.declared.Side.{Side}
-use Rattle.model.specs.Waits.{standsAt, waitersAt}
+use Rattle.model.specs.Waits.{standsAt, standing, orderOf, waitQueue}
 use Rattle.model.specs.Conditions.{Plain, Sound}
 use Rattle.model.proofs.Lists.{eqb-no}
+use Rattle.model.proofs.Order.{standing-nobody}
 use Rattle.tasks.specs.Ends.{taskIn}
 
 nobody-at : (d : Side) (l : List Waiter) → All Plain l → keep (standsAt (place d 0)) l ≡ []
@@ -18,7 +19,8 @@ nobody-at d (e ∷ l) h =
     let z : standsAt (place d 0) e ≡ false = ap (λ (b : Bool). sameSide d (e .place .side) && b) (eqb-no 0 (e .place .number) (λ q. h .0 .0 (sym q))) ∙ and-false (sameSide d (e .place .side)) in
     ap (λ (b : Bool). consIf b e (keep (standsAt (place d 0)) l)) z ∙ nobody-at d l (h .1)
 
-pub no-waiter : (m : State) → Sound m → (d : Side) (n k : ℕ) → n ≡ 0 → 0 ≡ getD (map taskIn (waitersAt m (place d n))) k 0
+pub no-waiter : (m : State) → Sound m → (d : Side) (n k : ℕ) → n ≡ 0 → 0 ≡ getD (map taskIn (waitQueue m (place d n))) k 0
 no-waiter m s d n k e =
-    ap (λ (l : List Waiter). getD (map taskIn l) k 0) (sym (nobody-at d (m .waits) (s .fit .waits .plain)))
-    ∙ ap (λ (j : ℕ). getD (map taskIn (waitersAt m (place d j))) k 0) (sym e)
+    let b = orderOf m d 0 in
+    ap (λ (l : List Waiter). getD (map taskIn l) k 0) (sym (standing-nobody b (m .fixed .tasks)) ∙ ap (standing b (m .fixed .tasks)) (sym (nobody-at d (m .waits) (s .fit .waits .plain))))
+    ∙ ap (λ (j : ℕ). getD (map taskIn (waitQueue m (place d j))) k 0) (sym e)

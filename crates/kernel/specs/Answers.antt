@@ -26,4 +26,4 @@ enteredOf o = entered (codeOf (o .answer .code)) (stateOf (o .state))
 
 -- ---- how large a table is
 abbrev pub summaryOf : Model.State → Summary
-summaryOf m = record { domains = m .fixed .count; unit = m .fixed .unit; closed = m .fixed .closed; tasks = length (m .fixed .domains); semaphores = length (m .sems); queues = length (m .queues); regions = length (m .fixed .regions) }
+summaryOf m = record { domains = m .fixed .count; unit = m .fixed .unit; closed = m .fixed .closed; tasks = length (m .fixed .tasks); semaphores = length (m .sems); queues = length (m .queues); regions = length (m .fixed .regions) }

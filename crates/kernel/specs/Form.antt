@@ -11,7 +11,7 @@ stateOf m =
     record {
       domains = m .fixed .count;
       closed = m .fixed .closed;
-      tasks = tasksAs (m .fixed .domains) (m .waits);
+      tasks = tasksAs (m .fixed .tasks) (m .waits);
       semaphores = semsAs (m .sems);
       queues = queuesAs (m .queues);
       regions = regionsAs (m .fixed .unit) (m .fixed .regions);

@@ -4,13 +4,14 @@ ghost use mathlib.Core.Path.{_≡_};
 ghost use mathlib.Core.List.{map};
 ghost use lib.ListN.{getD};
 ghost use Rattle.model.specs.State.{place};
-ghost use Rattle.model.specs.Waits.{waitersAt};
+ghost use Rattle.model.specs.Waits.{orderOf, waitQueue};
 ghost use Rattle.tasks.specs.Ends.{taskOf, taskIn};
 ghost use Rattle.kernel.specs.View.{viewOf};
 ghost use Rattle.kernel.specs.Valid.{Valid};
 ghost use Rattle.kernel.specs.Answers.{summaryOf};
 use crate::state::State;
 use model::Side;
+use model::order;
 use tasks::task::Task;
 
 // How large the table is: the number n of user domains, the protection unit, whether it is closed, and its entries by kind.
@@ -44,24 +45,36 @@ impl State {
         }
     }
 
-    // A task's domain and what it does.
+    // A task's domain and priority, and what it does.
     pub fn task(self, number: usize) -> Task
         requires { ⌜ Valid self ⌝ }
-        ensures { λ r. ⌜ r ≡ taskOf (viewOf self .fixed .domains) (viewOf self .waits) number ⌝ }
+        ensures { λ r. ⌜ r ≡ taskOf (viewOf self .fixed .tasks) (viewOf self .waits) number ⌝ }
     {
         let tasks = self.tasks;
         tasks.task(number)
     }
 
+    // Whether those who wait on that side of an object stand by priority.
+    pub(crate) fn by_priority(self, side: Side, number: usize) -> bool
+        requires { ⌜ Valid self ⌝ }
+        ensures { λ r. ⌜ r ≡ orderOf (viewOf self) side number ⌝ }
+    {
+        match side {
+            Side::OnSem => order::by_priority(self.semaphore(number).attribute),
+            Side::Receiving => false,
+            Side::Sending => order::by_priority(self.queue(number).attribute),
+        }
+    }
+
     // The task that waits on that side of an object with k tasks ahead; 0 past the last.
     pub fn waiter(self, side: Side, number: usize, k: usize) -> usize
         requires { ⌜ Valid self ⌝ }
-        ensures { λ r. ⌜ r ≡ getD (map taskIn (waitersAt (viewOf self) (place side number))) k 0 ⌝ }
+        ensures { λ r. ⌜ r ≡ getD (map taskIn (waitQueue (viewOf self) (place side number))) k 0 ⌝ }
     {
         if number == 0 {
             return 0;
         }
         let tasks = self.tasks;
-        tasks.waiter(side, number - 1, k)
+        tasks.waiter(side, number - 1, self.by_priority(side, number), k)
     }
 }

@@ -24,6 +24,7 @@ use itron::limit::MIN_UNIT;
 use regions::state::Regions;
 use regions::unit::is_unit;
 use semaphore::state::Semaphores;
+use tasks::entry;
 use tasks::state::Tasks;
 
 // Of two codes of checks the first that refuses.
@@ -97,25 +98,26 @@ impl State {
         if owned { E_OK } else { E_ID }
     }
 
-    pub(crate) fn check_task(self, domain: i32) -> i32
+    pub(crate) fn check_task(self, domain: i32, priority: u32) -> i32
         requires { ⌜ Valid self ⌝ }
-        ensures { λ r. ⌜ r ≡ resultOf (checkEntry (viewOf self) (task domain)) ⌝ }
+        ensures { λ r. ⌜ r ≡ resultOf (checkEntry (viewOf self) (task domain priority)) ⌝ }
     {
         let tasks = self.tasks;
-        self.opening(tasks.len(), MAX_TASKS, self.owns_task(domain))
+        let opening = self.opening(tasks.len(), MAX_TASKS, self.owns_task(domain));
+        first_hit(opening, entry::check(priority))
     }
 
-    // A task entry holds its domain only.
-    pub fn add_task(mut self, domain: i32) -> Entered
+    // A task entry holds its domain and its priority.
+    pub fn add_task(mut self, domain: i32, priority: u32) -> Entered
         requires { ⌜ Valid self ⌝ }
-        ensures { λ r. ⌜ Enters self (enter (viewOf self) (task domain)) r ⌝ }
+        ensures { λ r. ⌜ Enters self (enter (viewOf self) (task domain priority)) r ⌝ }
     {
-        let code = self.check_task(domain);
+        let code = self.check_task(domain, priority);
         if code != E_OK {
             return self.enter(code);
         }
         let tasks = self.tasks;
-        self.tasks = tasks.add(domain);
+        self.tasks = tasks.add(domain, priority);
         self.enter(E_OK)
     }
 

@@ -151,10 +151,10 @@ each-ran s a k =
     calls _ _ _ h₁₁ forces (a 11) (k .forced)
 
 -- the entry is refused by E_ID (-18), and demand 3 holds of the run
-pub full-run : (r₀ r₁ r₂ : Entered) → Begins (pos 2) minUnit r₀ → Enters (r₀ .state) (enter (viewOf (r₀ .state)) (task (pos 3))) r₁ → Enters (r₁ .state) (close (viewOf (r₁ .state))) r₂
+pub full-run : (r₀ r₁ r₂ : Entered) → Begins (pos 2) minUnit r₀ → Enters (r₀ .state) (enter (viewOf (r₀ .state)) (task (pos 3) 1)) r₁ → Enters (r₁ .state) (close (viewOf (r₁ .state))) r₂
     → (a : ℕ → Answer) → EachKind (r₂ .state) a → (r₁ .code ≡ negℤ (pos 18)) × Whole (r₂ .state) (a 11 .state) each (saidTo a 12)
 unfolding enter fresh unitOk
 full-run r₀ r₁ r₂ b e g a k = (
-  ap (λ (r : Entered). r .code) (e .same) ∙ ap (λ (m : Model.State). codeOf (enter m (task (pos 3)) .answer .code)) (b .seen),
-  whole (entered (r₀ .state) (begun (pos 2) minUnit r₀ b) (task (pos 3)) r₁ e) g (each-ran (r₂ .state) a k),
+  ap (λ (r : Entered). r .code) (e .same) ∙ ap (λ (m : Model.State). codeOf (enter m (task (pos 3) 1) .answer .code)) (b .seen),
+  whole (entered (r₀ .state) (begun (pos 2) minUnit r₀ b) (task (pos 3) 1) r₁ e) g (each-ran (r₂ .state) a k),
 )

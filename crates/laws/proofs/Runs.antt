@@ -22,7 +22,7 @@ use Rattle.model.specs.History.{event, after, history}
 use Rattle.model.specs.Conditions.{NoWords, Sound}
 use Rattle.model.specs.Demand3.{Demand3, JustClosed}
 use Rattle.model.specs.Denials.{Ready}
-use Rattle.model.specs.Turns.{serves, tasksOf, InTurn}
+use Rattle.model.specs.Turns.{serves, tasksOf, FirstCome, InTurn}
 use Rattle.model.specs.declared.Released.{Released}
 use Rattle.model.specs.Answers as Answers
 use Rattle.model.proofs.Lists.{all-any}
@@ -47,7 +47,7 @@ pub record Idle (s : Model.State) : Type 0 where
   pub sound : Sound s
 
 open-add : (s : Model.State) (i : Entry) → s .fixed .closed ≡ false → add s i .fixed .closed ≡ false
-open-add s (task d) h = h
+open-add s (task d p) h = h
 open-add s (sem d a b m v) h = h
 open-add s (queue d a c v) h = h
 open-add s (region d a b z v) h = h
@@ -122,12 +122,12 @@ whole {r} {cs} b g h =
       answers = answers-of h;
     }
 
--- taking turns: from any state of the program
-pub turns : {s₁ : State} → Valid s₁ → (p : Place) (e : Waiter) (ahead behind : List Waiter) → waitersAt (viewOf s₁) p ≡ ahead ++ e ∷ behind → TakesTurns s₁ p e ahead
-turns {s₁} v p e ahead behind w = record { still = still; served = served }
+-- taking turns: from any state of the program, where those who wait stand as they came
+pub turns : {s₁ : State} → Valid s₁ → (p : Place) → FirstCome (viewOf s₁) p → (e : Waiter) (ahead behind : List Waiter) → waitersAt (viewOf s₁) p ≡ ahead ++ e ∷ behind → TakesTurns s₁ p e ahead
+turns {s₁} v p u e ahead behind w = record { still = still; served = served }
   where
     t : InTurn (viewOf s₁) p e ahead
-    t = in-turn (viewOf s₁) (v .sound .fit .waits .distinct) p e ahead behind w
+    t = in-turn (viewOf s₁) (v .sound .fit .waits .distinct) p u e ahead behind w
 
     still : (cs : List Call) (s : State) (l : List Said) → Ran s₁ cs s l → total (serves p) (history (viewOf s₁) cs) ≤ length ahead
         → (m : List Waiter) × (waitersAt (viewOf s) p ≡ drop (total (serves p) (history (viewOf s₁) cs)) ahead ++ e ∷ m)

@@ -21,7 +21,7 @@ use Rattle.model.specs.declared.Patience.the-variants.{Polling, Forever}
 abbrev pub vector : ℕ → ℕ → ℕ → ℕ → Vector
 vector a b c d = record { normal1 = a; normal2 = b; management = c; reference = d }
 
--- ---- n = 2, unit 4,096; tasks 1 and 4 in domain 1, task 2 in domain 2, task 3 in the kernel; semaphore 1, queues 1 and 2; regions 1 and 2
+-- ---- n = 2, unit 4,096; tasks 1 and 4 in domain 1, task 2 in domain 2, task 3 in the kernel, all of priority 1; semaphore 1, queues 1 and 2; regions 1 and 2
 abbrev pub kernelDomain : ℤ
 kernelDomain = negsuc 0
 
@@ -30,7 +30,7 @@ unit = 4096
 
 abbrev pub entries : List Entry
 entries =
-    task (pos 1) ∷ task (pos 2) ∷ task kernelDomain ∷ task (pos 1)
+    task (pos 1) 1 ∷ task (pos 2) 1 ∷ task kernelDomain 1 ∷ task (pos 1) 1
     ∷ sem kernelDomain 0 1 2 (Given (vector 1 1 0 3))
     ∷ queue kernelDomain 0 2 (Given (vector 1 1 0 3))
     ∷ queue kernelDomain 0 0 (Given (vector 3 3 0 3))

@@ -11,7 +11,7 @@ use lib.ListN.{length, drop, length-drop}
 use lib.Seq.{drop-drop, drop-length}
 use Rattle.itron.specs.Codes.{ok, waiting, error}
 use Rattle.model.specs.Lists.{consIf, total}
-use Rattle.model.specs.State.{Place, Waiter, State, Side, onSem, receiving, sending, Sem, Queue, setWaits, samePlace}
+use Rattle.model.specs.State.{Place, Waiter, State, Side, onSem, receiving, sending, Sem, Queue, place, setWaits, semAt, queueAt, samePlace}
 use Rattle.model.specs.Answers.{Answer, Out, say, tells}
 use Rattle.model.specs.Waits.{standsAt, waitersIn, waitersAt, byPriority, standing, orderOf, waitQueue, leave, join, freed}
 use Rattle.model.specs.Rooms.{Asks}
@@ -25,6 +25,16 @@ use Rattle.model.proofs.Cover.{Endings, ends}
 use Rattle.model.proofs.Steps.{distinct-after}
 use Rattle.model.proofs.SemaphoreClaims as Semaphores
 use Rattle.model.proofs.QueueClaims as Queues
+
+-- ---- those who wait stand as they came at an object with attribute 0, and to receive from any queue
+pub semaphore-first-come : (s : State) (i : ℕ) → semAt s i .attribute ≡ 0 → FirstCome s (place onSem i)
+semaphore-first-come s i h = ap byPriority h
+
+pub senders-first-come : (s : State) (q : ℕ) → queueAt s q .attribute ≡ 0 → FirstCome s (place sending q)
+senders-first-come s q h = ap byPriority h
+
+pub receivers-first-come : (s : State) (q : ℕ) → FirstCome s (place receiving q)
+receivers-first-come s q = refl
 
 -- ---- no call changes the order at a place
 order-law : (s : State) (c : Call) (d : Side) (n : ℕ) → orderOf (step s c .state) d n ≡ orderOf s d n

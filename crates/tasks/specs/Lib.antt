@@ -4,3 +4,4 @@ pub mod Held
 pub mod Orders
 pub mod Leads
 pub mod Ends
+pub mod Entries

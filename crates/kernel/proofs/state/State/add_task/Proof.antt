@@ -11,7 +11,7 @@ use Rattle.kernel.specs.View.{viewOf}
 use Rattle.kernel.specs.Answers.{entered}
 use Rattle.kernel.specs.Inside.{withTasks}
 use Rattle.kernel.proofs.Back.{tasks-held}
-use Rattle.kernel.proofs.Building.{passed-none, refuses-entry, takes-entry, task-room}
+use Rattle.kernel.proofs.Building.{passed-none, refuses-entry, takes-entry, task-room, task-fits}
 use Rattle.kernel.proofs.state.State.add_task.Statement.{statement}
 use Rattle.kernel.proofs.state.State.add_task.Tie as tie
 
@@ -28,23 +28,24 @@ returns c =
     let a = b .args in
     let z = p .check-task .result in
     let e : toZ w32 (ofZ w32 z) ≡ z = search needs in
-    refuses-entry (b .pre) (task (a .domain)) z (rw (toZ-ofZ (b .fits .domain)) at (p .check-task .ensures)) (λ q. c .before .if1 .taken (ap (ofZ w32) q)) (c .enter .ensures ∙ ap (λ (y : ℤ). entered y (a .self)) e)
+    refuses-entry (b .pre) (task (a .domain) (a .priority)) z (rw (toZ-ofZ (b .fits .domain)) at (p .check-task .ensures)) (λ q. c .before .if1 .taken (ap (ofZ w32) q)) (c .enter .ensures ∙ ap (λ (y : ℤ). entered y (a .self)) e)
 
-passes : (c : tie.Else1) → let a = c .before .before .args in checkEntry (viewOf (a .self)) (task (a .domain)) ≡ none
+passes : (c : tie.Else1) → let a = c .before .before .args in checkEntry (viewOf (a .self)) (task (a .domain) (a .priority)) ≡ none
 passes c =
     let p = c .before in
     let b = p .before in
     let a = b .args in
     let z = p .check-task .result in
     let e : toZ w32 (ofZ w32 z) ≡ z = search needs in
-    passed-none (checkEntry (viewOf (a .self)) (task (a .domain))) z (rw (toZ-ofZ (b .fits .domain)) at (p .check-task .ensures)) (sym e ∙ ap (toZ w32) (c .if1 .left))
+    passed-none (checkEntry (viewOf (a .self)) (task (a .domain) (a .priority))) z (rw (toZ-ofZ (b .fits .domain)) at (p .check-task .ensures)) (sym e ∙ ap (toZ w32) (c .if1 .left))
 
 add-requires : tie.Need-add-requires
 add-requires c κs =
     let b = c .before .before .before in
     let a = b .args in
-    let r = task-room (viewOf (a .self)) (a .domain) (passes (c .before)) in
-    (tasks-held (b .pre), r .0, b .pre .sound .quiet (r .1))
+    let m = viewOf (a .self) in
+    let r = task-room m (a .domain) (a .priority) (passes (c .before)) in
+    (tasks-held (b .pre), r .0, b .pre .sound .quiet (r .1), task-fits m (b .pre .sound .entries .domains) (a .domain) (a .priority) (passes (c .before)))
 
 enter-requires-2 : tie.Need-enter-requires-2
 enter-requires-2 c κs = search needs
@@ -56,7 +57,7 @@ returns-2 c =
     let a = b .args in
     let f = b .pre .form in
     let e = rw (toZ-ofZ (b .fits .domain)) at (c .before .add .ensures) in
-    takes-entry (b .pre) (task (a .domain)) (passes q) (λ i. withTasks (f i) (e i)) (c .enter2 .ensures)
+    takes-entry (b .pre) (task (a .domain) (a .priority)) (passes q) (λ i. withTasks (f i) (e i)) (c .enter2 .ensures)
 
 pub add-task-spec : {M : Type 1} → statement M
 add-task-spec =

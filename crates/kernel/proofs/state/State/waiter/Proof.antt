@@ -6,7 +6,7 @@ use mathlib.Core.Path.{_≡_, ap, _∙_}
 use mathlib.Core.List.{map}
 use lib.ListN.{getD}
 use Rattle.model.specs.State.{place}
-use Rattle.model.specs.Waits.{waitersAt}
+use Rattle.model.specs.Waits.{standing, waitersIn, orderOf}
 use Rattle.tasks.specs.Ends.{taskIn}
 use Rattle.kernel.specs.View.{viewOf}
 use Rattle.kernel.proofs.Back.{tasks-held}
@@ -20,6 +20,9 @@ returns c = let b = c .before in let a = b .args in no-waiter (viewOf (a .self))
 sub-waiter : tie.Need-sub-waiter
 sub-waiter c = search needs
 
+by-priority-requires : tie.Need-by-priority-requires
+by-priority-requires c κs = search needs
+
 waiter-requires : tie.Need-waiter-requires
 waiter-requires c κs = tasks-held (c .before .before .pre)
 
@@ -29,7 +32,9 @@ returns-2 c =
     let a = b .args in
     let z = c .before .before .if1 .left in
     let e : suc (a .number - 1) ≡ a .number = omega arith in
-    c .waiter .ensures ∙ ap (λ (n : ℕ). getD (map taskIn (waitersAt (viewOf (a .self)) (place (a .side) n))) (a .k) 0) e
+    let m = viewOf (a .self) in
+    let o = c .before .by-priority .ensures in
+    c .waiter .ensures ∙ (λ i. getD (map taskIn (standing (o i) (m .fixed .tasks) (waitersIn (m .waits) (place (a .side) (e i))))) (a .k) 0)
 
 pub waiter-spec : {M : Type 1} → statement M
-waiter-spec = tie.close (tie.spec returns sub-waiter waiter-requires returns-2)
+waiter-spec = tie.close (tie.spec returns sub-waiter by-priority-requires waiter-requires returns-2)
