@@ -11,6 +11,14 @@ uint32_t timing_wait_send(uint32_t pairs, int32_t waiter, int32_t task, int32_t 
 uint32_t timing_force_receive(uint32_t pairs, int32_t task, int32_t id);
 uint32_t timing_force_drop(uint32_t rounds, int32_t task, int32_t id);
 uint32_t timing_refer_set_queue(uint32_t pairs, int32_t task, int32_t id);
+uint32_t timing_signal_wait(uint32_t rounds, uint32_t attribute, int32_t task, const uint32_t *priorities,
+                            size_t priorities_len);
+uint32_t timing_receive_send(uint32_t rounds, uint32_t attribute, uint32_t capacity, int32_t task,
+                             const uint32_t *priorities, size_t priorities_len);
+uint32_t timing_signal_once(uint32_t rounds, uint32_t attribute, int32_t task, const uint32_t *priorities,
+                            size_t priorities_len);
+uint32_t timing_receive_once(uint32_t rounds, uint32_t attribute, uint32_t capacity, int32_t task,
+                             const uint32_t *priorities, size_t priorities_len);
 uint32_t timing_verdict(uint32_t rounds, const int32_t *domains, size_t domains_len, const uint32_t *bases,
                         size_t bases_len, uint32_t size, uint32_t wishes);
 size_t host_run(const uint32_t *calls, size_t calls_len, uint32_t *answers, size_t answers_len);
@@ -58,6 +66,30 @@ static void list(uint32_t pairs, uint32_t send) {
 static void listed(uint32_t pairs) { list(pairs, 6); }
 static void listed_force(uint32_t pairs) { list(pairs, 12); }
 
+// Three tasks wait, the last one most urgent; the queue has two words. By attribute 0 the first to come is released, by 1 the last.
+enum { FIRST_COME, BY_PRIORITY, WAITERS = 3, CAPACITY = 2 };
+static const uint32_t priorities[WAITERS] = {16, 16, 1};
+
+static void signal_wait(uint32_t rounds, uint32_t order) { timing_signal_wait(rounds, order, 1, priorities, WAITERS); }
+static void receive_send(uint32_t rounds, uint32_t order) {
+    timing_receive_send(rounds, order, CAPACITY, 1, priorities, WAITERS);
+}
+static void signal_once(uint32_t rounds, uint32_t order) { timing_signal_once(rounds, order, 1, priorities, WAITERS); }
+static void receive_once(uint32_t rounds, uint32_t order) {
+    timing_receive_once(rounds, order, CAPACITY, 1, priorities, WAITERS);
+}
+// Refused at once, for nobody is task 0: the copy of the table and what any call copies.
+static void refused_once(uint32_t rounds) { timing_signal_once(rounds, FIRST_COME, 0, priorities, WAITERS); }
+
+static void signal_wait_come(uint32_t rounds) { signal_wait(rounds, FIRST_COME); }
+static void signal_wait_order(uint32_t rounds) { signal_wait(rounds, BY_PRIORITY); }
+static void receive_send_come(uint32_t rounds) { receive_send(rounds, FIRST_COME); }
+static void receive_send_order(uint32_t rounds) { receive_send(rounds, BY_PRIORITY); }
+static void signal_come(uint32_t rounds) { signal_once(rounds, FIRST_COME); }
+static void signal_order(uint32_t rounds) { signal_once(rounds, BY_PRIORITY); }
+static void receive_come(uint32_t rounds) { receive_once(rounds, FIRST_COME); }
+static void receive_order(uint32_t rounds) { receive_once(rounds, BY_PRIORITY); }
+
 // What the table costs is left out: one round less.
 static void count(const char *name, void (*work)(uint32_t rounds), double in_a_round) {
     bytes = copies = 0;
@@ -83,4 +115,13 @@ int main(void) {
     count("verdict, into the next", into_next, REGIONS);
     count("list: wait to receive, send", listed, 1);
     count("list: wait to receive, forced send", listed_force, 1);
+    count("signal, wait again: first come", signal_wait_come, 1);
+    count("signal, wait again: by priority", signal_wait_order, 1);
+    count("receive, send again: first come", receive_send_come, 1);
+    count("receive, send again: by priority", receive_send_order, 1);
+    count("one signal, from a copied table: first come", signal_come, 1);
+    count("one signal, from a copied table: by priority", signal_order, 1);
+    count("one receive, from a copied table: first come", receive_come, 1);
+    count("one receive, from a copied table: by priority", receive_order, 1);
+    count("one refused signal, from a copied table", refused_once, 1);
 }

@@ -5,6 +5,7 @@ mod compare;
 mod finding;
 mod forced;
 mod listed;
+mod order;
 mod ours;
 mod plain;
 mod plain_runs;
@@ -127,14 +128,17 @@ fn by_turns(ours: impl Fn(u32) -> u32, plain: impl Fn(u32) -> u32, rounds: [u32;
 fn main() {
     let arguments: Vec<String> = std::env::args().skip(1).collect();
     match arguments.iter().map(String::as_str).collect::<Vec<_>>()[..] {
-        [] => [compare::compare, table::table, forced::forced, finding::finding].iter().for_each(|part| part()),
+        [] => [compare::compare, table::table, forced::forced, order::order, finding::finding]
+            .iter()
+            .for_each(|part| part()),
         ["compare"] => compare::compare(),
         ["replay"] => replayed::compare(),
         ["table"] => table::table(),
         ["force"] => forced::forced(),
+        ["order"] => order::order(),
         ["find"] => finding::finding(),
         ["turn"] => table::turn(),
         ["stack-probe", name, size] => stack::probe(name, size),
-        _ => panic!("usage: bench-rust [compare | replay | table | force | find]"),
+        _ => panic!("usage: bench-rust [compare | replay | table | force | order | find]"),
     }
 }

@@ -1,7 +1,7 @@
 //! The proved kernel's functions in the linked archives.
 
 use crate::finding::Places;
-use crate::plain_runs::{Asked, Each, Who};
+use crate::plain_runs::{Asked, Crowd, Each, Who};
 
 mod archive {
     extern "C" {
@@ -30,6 +30,36 @@ mod archive {
             before_len: usize,
             ids: *const i32,
             ids_len: usize,
+        ) -> u32;
+        pub fn timing_signal_wait(
+            rounds: u32,
+            attribute: u32,
+            task: i32,
+            priorities: *const u32,
+            priorities_len: usize,
+        ) -> u32;
+        pub fn timing_receive_send(
+            rounds: u32,
+            attribute: u32,
+            capacity: u32,
+            task: i32,
+            priorities: *const u32,
+            priorities_len: usize,
+        ) -> u32;
+        pub fn timing_signal_once(
+            rounds: u32,
+            attribute: u32,
+            task: i32,
+            priorities: *const u32,
+            priorities_len: usize,
+        ) -> u32;
+        pub fn timing_receive_once(
+            rounds: u32,
+            attribute: u32,
+            capacity: u32,
+            task: i32,
+            priorities: *const u32,
+            priorities_len: usize,
         ) -> u32;
         pub fn timing_verdict(
             rounds: u32,
@@ -95,6 +125,28 @@ pub fn force_each(rounds: u32, each: &Each) -> u32 {
     let Each { capacity, task, before, ids } = each;
     let (b, i) = (before.as_ptr(), ids.as_ptr());
     unsafe { archive::timing_force_each(rounds, *capacity, *task, b, before.len(), i, ids.len()) }
+}
+
+pub fn signal_wait(rounds: u32, crowd: &Crowd) -> u32 {
+    let Crowd { attribute, task, priorities, .. } = crowd;
+    unsafe { archive::timing_signal_wait(rounds, *attribute, *task, priorities.as_ptr(), priorities.len()) }
+}
+
+pub fn receive_send(rounds: u32, crowd: &Crowd) -> u32 {
+    let Crowd { attribute, capacity, task, priorities } = crowd;
+    let (p, count) = (priorities.as_ptr(), priorities.len());
+    unsafe { archive::timing_receive_send(rounds, *attribute, *capacity, *task, p, count) }
+}
+
+pub fn signal_once(rounds: u32, crowd: &Crowd) -> u32 {
+    let Crowd { attribute, task, priorities, .. } = crowd;
+    unsafe { archive::timing_signal_once(rounds, *attribute, *task, priorities.as_ptr(), priorities.len()) }
+}
+
+pub fn receive_once(rounds: u32, crowd: &Crowd) -> u32 {
+    let Crowd { attribute, capacity, task, priorities } = crowd;
+    let (p, count) = (priorities.as_ptr(), priorities.len());
+    unsafe { archive::timing_receive_once(rounds, *attribute, *capacity, *task, p, count) }
 }
 
 pub fn verdict(rounds: u32, asked: &Asked) -> u32 {

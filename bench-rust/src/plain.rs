@@ -1,5 +1,9 @@
 //! An ordinary kernel core: one struct of fixed arrays, changed in place by each call.
 
+mod shown;
+
+pub use shown::Place;
+
 /// A code of μITRON4.0; a refusal is negative.
 pub type Er = i32;
 /// A check passed, an entry taken, a verdict given.
@@ -29,9 +33,16 @@ pub const MAX_WORDS: usize = 2_048;
 pub const MAX_SEMAPHORE_COUNT: u32 = 65_535;
 pub const MAX_QUEUE_CAPACITY: u32 = 256;
 pub const MAX_UNIT: u32 = 65_536;
+/// The most urgent priority of a task, and the least urgent one.
+pub const MIN_PRIORITY: u32 = 1;
+pub const MAX_PRIORITY: u32 = 16;
 
 pub const TDOM_KERNEL: i32 = -1;
 pub const TDOM_NONE: i32 = -2;
+
+/// Attributes of a semaphore or queue: its waiters stand first come, or by priority.
+pub const TA_TFIFO: u32 = 0;
+pub const TA_TPRI: u32 = 1;
 
 pub const TA_RO: u32 = 1;
 pub const TA_EXEC: u32 = 4;
@@ -117,6 +128,15 @@ impl<T: Copy, const N: usize> Table<T, N> {
     }
 }
 
+/// Whether an attribute orders waiters by priority.
+fn by_priority(atr: u32) -> Result<bool, Er> {
+    match atr {
+        TA_TFIFO => Ok(false),
+        TA_TPRI => Ok(true),
+        _ => Err(E_RSATR),
+    }
+}
+
 /// A released task, and the word that it gets.
 #[derive(Clone, Copy, Debug, PartialEq)]
 pub struct Released {
@@ -158,29 +178,52 @@ struct Task {
     waiting: bool,
     /// The task behind this one in its wait queue; 0 is nobody.
     next: u8,
+    /// 1 is the most urgent.
+    priority: u8,
 }
 
-const NO_TASK: Task = Task { domain: 0, word: 0, waiting: false, next: 0 };
+const NO_TASK: Task = Task { domain: 0, word: 0, waiting: false, next: 0, priority: 0 };
 
 /// Waiting tasks linked through their records: a task waits in one place only.
 #[derive(Clone, Copy)]
 struct WaitQueue {
     first: u8,
     last: u8,
+    by_priority: bool,
 }
 
-const NOBODY: WaitQueue = WaitQueue { first: 0, last: 0 };
-
 impl WaitQueue {
+    const fn empty(by_priority: bool) -> WaitQueue {
+        WaitQueue { first: 0, last: 0, by_priority }
+    }
+
+    /// Whom a task that comes now stands behind, 0 where it is the first: the last of all, or the last that is no less urgent.
+    fn ahead(&self, tasks: &[Task; MAX_TASKS], priority: u8) -> u8 {
+        let stays_ahead = |number: u8| tasks[usize::from(number) - 1].priority <= priority;
+        if !self.by_priority || self.last == 0 || stays_ahead(self.last) {
+            return self.last;
+        }
+        // The last one ends the walk, as it is less urgent.
+        let (mut ahead, mut next) = (0, self.first);
+        while stays_ahead(next) {
+            ahead = next;
+            next = tasks[usize::from(next) - 1].next;
+        }
+        ahead
+    }
+
     fn join(&mut self, tasks: &mut [Task; MAX_TASKS], task: usize) {
         let number = task as u8 + 1;
-        tasks[task].waiting = true;
-        tasks[task].next = 0;
-        match self.last {
-            0 => self.first = number,
-            last => tasks[usize::from(last) - 1].next = number,
+        let link = match self.ahead(tasks, tasks[task].priority) {
+            0 => &mut self.first,
+            ahead => &mut tasks[usize::from(ahead) - 1].next,
+        };
+        let behind = std::mem::replace(link, number);
+        if behind == 0 {
+            self.last = number;
         }
-        self.last = number;
+        tasks[task].next = behind;
+        tasks[task].waiting = true;
     }
 
     fn release(&mut self, tasks: &mut [Task; MAX_TASKS]) -> Option<usize> {
@@ -196,17 +239,20 @@ impl WaitQueue {
 
 #[derive(Clone, Copy)]
 struct Semaphore {
+    domain: i32,
     count: u32,
     max: u32,
     vector: Vector,
     waiters: WaitQueue,
 }
 
-const NO_SEMAPHORE: Semaphore = Semaphore { count: 0, max: 0, vector: Vector::KERNEL, waiters: NOBODY };
+const NO_SEMAPHORE: Semaphore =
+    Semaphore { domain: 0, count: 0, max: 0, vector: Vector::KERNEL, waiters: WaitQueue::empty(false) };
 
-/// A data queue; its ring buffer is a part of the kernel's words.
+/// A data queue; its ring buffer is a part of the kernel's words. Its receivers stand first come, whatever its attribute.
 #[derive(Clone, Copy)]
 struct Queue {
+    domain: i32,
     start: u32,
     capacity: u32,
     oldest: u32,
@@ -216,8 +262,16 @@ struct Queue {
     receivers: WaitQueue,
 }
 
-const NO_QUEUE: Queue =
-    Queue { start: 0, capacity: 0, oldest: 0, count: 0, vector: Vector::KERNEL, senders: NOBODY, receivers: NOBODY };
+const NO_QUEUE: Queue = Queue {
+    domain: 0,
+    start: 0,
+    capacity: 0,
+    oldest: 0,
+    count: 0,
+    vector: Vector::KERNEL,
+    senders: WaitQueue::empty(false),
+    receivers: WaitQueue::empty(false),
+};
 
 impl Queue {
     /// One subtraction wraps the place, as both numbers are below the capacity.
@@ -271,7 +325,7 @@ impl Region {
     }
 }
 
-/// The whole kernel; the domain of a semaphore or queue is not kept, as only its default vector needs it.
+/// The whole kernel; the domain of a semaphore or queue is kept to be shown only.
 #[derive(Clone)]
 pub struct Kernel {
     domains: i32,
@@ -321,31 +375,32 @@ impl Kernel {
         ensure(domain == TDOM_KERNEL || domain == TDOM_NONE || self.is_user(domain), E_ID)
     }
 
-    pub fn add_task(&mut self, domain: i32) -> Check {
+    pub fn add_task(&mut self, domain: i32, priority: u32) -> Check {
         self.check_entry(&self.tasks, domain)?;
         ensure(domain != TDOM_NONE, E_ID)?;
-        self.tasks.add(Task { domain, ..NO_TASK });
+        ensure((MIN_PRIORITY..=MAX_PRIORITY).contains(&priority), E_PAR)?;
+        self.tasks.add(Task { domain, priority: priority as u8, ..NO_TASK });
         Ok(())
     }
 
     pub fn add_semaphore(&mut self, domain: i32, atr: u32, start: u32, max: u32, vector: Option<Vector>) -> Check {
         self.check_entry(&self.semaphores, domain)?;
-        ensure(atr == 0, E_RSATR)?;
+        let waiters = WaitQueue::empty(by_priority(atr)?);
         ensure((1..=MAX_SEMAPHORE_COUNT).contains(&max) && start <= max, E_PAR)?;
         let vector = vector.unwrap_or(Vector::default_of(domain));
-        self.semaphores.add(Semaphore { count: start, max, vector, ..NO_SEMAPHORE });
+        self.semaphores.add(Semaphore { domain, count: start, max, vector, waiters });
         Ok(())
     }
 
     pub fn add_queue(&mut self, domain: i32, atr: u32, capacity: u32, vector: Option<Vector>) -> Check {
         self.check_entry(&self.queues, domain)?;
-        ensure(atr == 0, E_RSATR)?;
+        let senders = WaitQueue::empty(by_priority(atr)?);
         ensure(capacity <= MAX_QUEUE_CAPACITY, E_PAR)?;
         let start = self.words_used;
         ensure(start + capacity <= MAX_WORDS as u32, E_NOMEM)?;
         self.words_used += capacity;
         let vector = vector.unwrap_or(Vector::default_of(domain));
-        self.queues.add(Queue { start, capacity, vector, ..NO_QUEUE });
+        self.queues.add(Queue { domain, start, capacity, vector, senders, ..NO_QUEUE });
         Ok(())
     }
 

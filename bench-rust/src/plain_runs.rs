@@ -1,7 +1,8 @@
 //! The archive's functions, done by the ordinary kernel: same tables, same loops, same results.
 
 use crate::plain::{
-    Check, Done, Er, Kernel, Referred, Vector, E_OK, MAX_REGIONS, TA_EXEC, TA_RO, TDOM_KERNEL, TPM_READ,
+    Check, Done, Er, Kernel, Referred, Vector, E_OK, MAX_REGIONS, MAX_TASKS, MIN_PRIORITY, TA_EXEC, TA_RO, TA_TFIFO,
+    TDOM_KERNEL, TPM_READ,
 };
 use std::hint::black_box;
 
@@ -41,10 +42,10 @@ fn build(kernel: &mut Kernel, n: i32, entries: impl Fn(&mut Kernel) -> Check) {
 pub fn bench_table(kernel: &mut Kernel) {
     let first = Some(Vector::new(1, 1, 0, 3));
     build(kernel, 2, |kernel| {
-        [1, 2, TDOM_KERNEL, 1].into_iter().try_for_each(|domain| kernel.add_task(domain))?;
-        kernel.add_semaphore(TDOM_KERNEL, 0, 1, 2, first)?;
-        kernel.add_queue(TDOM_KERNEL, 0, 2, first)?;
-        kernel.add_queue(TDOM_KERNEL, 0, 0, Some(Vector::new(3, 3, 0, 3)))?;
+        [1, 2, TDOM_KERNEL, 1].into_iter().try_for_each(|domain| kernel.add_task(domain, MIN_PRIORITY))?;
+        kernel.add_semaphore(TDOM_KERNEL, TA_TFIFO, 1, 2, first)?;
+        kernel.add_queue(TDOM_KERNEL, TA_TFIFO, 2, first)?;
+        kernel.add_queue(TDOM_KERNEL, TA_TFIFO, 0, Some(Vector::new(3, 3, 0, 3)))?;
         kernel.add_region(TDOM_KERNEL, TA_RO | TA_EXEC, 0x1000, 0x1000, Some(Vector::new(0, 3, 0, 3)))?;
         kernel.add_region(TDOM_KERNEL, 0, 0x2000, 0x1000, Some(Vector::new(1, 1, 0, 1)))
     })
@@ -186,10 +187,10 @@ pub struct Each {
 fn each(rounds: u32, each: &Each, call: impl Fn(&mut Kernel, i32, i32, u32) -> Result<Done, Er>) -> u32 {
     let mut start = Kernel::EMPTY;
     build(&mut start, 1, |kernel| {
-        kernel.add_task(1)?;
+        kernel.add_task(1, MIN_PRIORITY)?;
         // Queues that are too large are refused, and the table has none.
         for _ in 0..EACH_QUEUES {
-            let _ = kernel.add_queue(1, 0, each.capacity, None);
+            let _ = kernel.add_queue(1, TA_TFIFO, each.capacity, None);
         }
         Ok(())
     });
@@ -212,6 +213,111 @@ pub fn send_each(rounds: u32, given: &Each) -> u32 {
 
 pub fn force_each(rounds: u32, given: &Each) -> u32 {
     each(rounds, given, Kernel::fsnd_dtq)
+}
+
+/// Tasks that wait at one object; its attribute orders them.
+#[derive(Clone, Debug)]
+pub struct Crowd {
+    pub attribute: u32,
+    /// Of the queue.
+    pub capacity: u32,
+    /// Who signals or receives: task 1 is ready.
+    pub task: i32,
+    /// Of the tasks from 2 on, which wait in the order of their numbers.
+    pub priorities: Vec<u32>,
+}
+
+/// The object that a crowd waits at.
+const CROWDED: i32 = 1;
+
+/// A semaphore and a queue, and the tasks to which both are private; what is refused the table has not.
+fn crowd_table(kernel: &mut Kernel, crowd: &Crowd) {
+    build(kernel, 1, |kernel| {
+        kernel.add_task(1, MIN_PRIORITY)?;
+        for &priority in crowd.priorities.iter().take(MAX_TASKS - 1) {
+            let _ = kernel.add_task(1, priority);
+        }
+        let _ = kernel.add_semaphore(1, crowd.attribute, 0, 1, None);
+        let _ = kernel.add_queue(1, crowd.attribute, crowd.capacity, None);
+        Ok(())
+    });
+}
+
+fn crowd_numbers(crowd: &Crowd) -> impl Iterator<Item = i32> {
+    2..crowd.priorities.len().min(MAX_TASKS - 1) as i32 + 2
+}
+
+/// All wait on the semaphore.
+fn semaphore_crowd(kernel: &mut Kernel, crowd: &Crowd) {
+    crowd_table(kernel, crowd);
+    for waiter in crowd_numbers(crowd) {
+        let _ = kernel.wai_sem(waiter, CROWDED);
+    }
+}
+
+/// The task fills the queue, then all wait to send, each its own number.
+fn queue_crowd(kernel: &mut Kernel, crowd: &Crowd) {
+    crowd_table(kernel, crowd);
+    for _ in 0..crowd.capacity {
+        let _ = kernel.psnd_dtq(crowd.task, CROWDED, 0);
+    }
+    for sender in crowd_numbers(crowd) {
+        let _ = kernel.snd_dtq(sender, CROWDED, sender as u32);
+    }
+}
+
+fn released_by(answer: Result<Done, Er>) -> u32 {
+    answer.ok().and_then(|done| done.released).map_or(0, |released| released.task)
+}
+
+/// The task signals, and whoever is released waits again; the sum of the released tasks' numbers.
+pub fn signal_wait(rounds: u32, crowd: &Crowd) -> u32 {
+    let mut kernel = Kernel::EMPTY;
+    semaphore_crowd(&mut kernel, crowd);
+    let mut sum: u32 = 0;
+    for _ in 0..rounds {
+        let (kernel, task, id) = (black_box(&mut kernel), black_box(crowd.task), black_box(CROWDED));
+        let released = released_by(kernel.sig_sem(task, id));
+        let _ = kernel.wai_sem(released as i32, id);
+        sum = sum.wrapping_add(released);
+    }
+    sum
+}
+
+/// The task receives, and the sender that is released sends again; the sum of the words and of the released tasks' numbers.
+pub fn receive_send(rounds: u32, crowd: &Crowd) -> u32 {
+    let mut kernel = Kernel::EMPTY;
+    queue_crowd(&mut kernel, crowd);
+    let mut sum: u32 = 0;
+    for round in 0..rounds {
+        let (kernel, task, id) = (black_box(&mut kernel), black_box(crowd.task), black_box(CROWDED));
+        let received = kernel.prcv_dtq(task, id);
+        let released = released_by(received);
+        let _ = kernel.snd_dtq(released as i32, id, round);
+        sum = sum.wrapping_add(word_of(received)).wrapping_add(released);
+    }
+    sum
+}
+
+/// One signal in each round, all from the same table; the sum of the released tasks' numbers.
+pub fn signal_once(rounds: u32, crowd: &Crowd) -> u32 {
+    let mut start = Kernel::EMPTY;
+    semaphore_crowd(&mut start, crowd);
+    (0..rounds).fold(0, |sum: u32, _| {
+        let mut kernel = black_box(&start).clone();
+        sum.wrapping_add(released_by(kernel.sig_sem(crowd.task, CROWDED)))
+    })
+}
+
+/// One receive in each round, all from the same table; the sum of the words and of the released tasks' numbers.
+pub fn receive_once(rounds: u32, crowd: &Crowd) -> u32 {
+    let mut start = Kernel::EMPTY;
+    queue_crowd(&mut start, crowd);
+    (0..rounds).fold(0, |sum: u32, _| {
+        let mut kernel = black_box(&start).clone();
+        let received = kernel.prcv_dtq(crowd.task, CROWDED);
+        sum.wrapping_add(word_of(received)).wrapping_add(released_by(received))
+    })
 }
 
 pub fn listed(pairs: u32, send: u32) -> u32 {

@@ -1,5 +1,5 @@
-//! The bench runs of document 01, with the limits of request T-07 and the units of T-06, and forced send (T-05), on the
-//! ordinary kernel.
+//! The bench runs of document 01, with the limits of request T-07 and the units of T-06, forced send (T-05) and priority
+//! order (T-10), on the ordinary kernel.
 
 use crate::plain::*;
 use crate::plain_runs::bench_table;
@@ -42,7 +42,7 @@ fn run_q() {
 #[test]
 fn table_and_numbers() {
     let mut k = Kernel::EMPTY;
-    assert_eq!([k.fresh(32, 1), k.fresh(33, 1), k.add_task(1)], [Ok(()), Err(E_PAR), Err(E_ID)]);
+    assert_eq!([k.fresh(32, 1), k.fresh(33, 1), k.add_task(1, 1)], [Ok(()), Err(E_PAR), Err(E_ID)]);
     assert_eq!(k.add_semaphore(TDOM_NONE, 0, 0, 65_535, None), Ok(()));
     assert_eq!([(0, 65_536), (2, 1)].map(|(start, max)| k.add_semaphore(-1, 0, start, max, None)), [Err(E_PAR); 2]);
     assert_eq!([256; 8].map(|capacity| k.add_queue(TDOM_KERNEL, 0, capacity, None)), [Ok(()); 8]);
@@ -50,7 +50,7 @@ fn table_and_numbers() {
         [257, 1, 0].map(|capacity| k.add_queue(TDOM_KERNEL, 0, capacity, None)),
         [Err(E_PAR), Err(E_NOMEM), Ok(())]
     );
-    assert_eq!([k.close(), k.close(), k.add_task(TDOM_KERNEL)], [Ok(()), Err(E_CTX), Err(E_CTX)]);
+    assert_eq!([k.close(), k.close(), k.add_task(TDOM_KERNEL, 1)], [Ok(()), Err(E_CTX), Err(E_CTX)]);
     let mut k = Kernel::EMPTY;
     bench_table(&mut k);
     assert_eq!([-1, 0, 65].map(|id| k.sig_sem(1, id)), [Err(E_ID); 3]);
@@ -77,7 +77,7 @@ fn units() {
     let mut k = Kernel::EMPTY;
     assert_eq!([1, 2, 4_096, 65_536].map(|unit| k.fresh(2, unit)), [Ok(()); 4]);
     assert_eq!([0, 3, 4_095, 65_537, 131_072, u32::MAX].map(|unit| k.fresh(2, unit)), [Err(E_PAR); 6]);
-    assert_eq!([k.add_task(1), k.add_region(-1, 0, 1, 1, None)], [Err(E_ID), Ok(())]);
+    assert_eq!([k.add_task(1, 1), k.add_region(-1, 0, 1, 1, None)], [Err(E_ID), Ok(())]);
     assert_eq!([k.fresh(33, 4_096), k.fresh(2, 4_096)], [Err(E_PAR), Ok(())]);
     let regions =
         [(0x800, 0x1000), (0x1000, 0x800), (0x1000, 0x1000), (0x801, 0x1000), (0, 0x1000), (0xFFFF_F000, 0x1000)];
@@ -110,7 +110,7 @@ fn touching_regions() {
 fn forced_table(capacity: u32) -> Kernel {
     let mut k = Kernel::EMPTY;
     assert_eq!(k.fresh(2, 1), Ok(()));
-    assert_eq!([1, 1, 2, TDOM_KERNEL].map(|domain| k.add_task(domain)), [Ok(()); 4]);
+    assert_eq!([1, 1, 2, TDOM_KERNEL].map(|domain| k.add_task(domain, 1)), [Ok(()); 4]);
     assert_eq!(k.add_queue(1, 0, capacity, None), Ok(()));
     assert_eq!(k.add_queue(TDOM_KERNEL, 0, 1, Some(Vector::new(0, 1, 1, 1))), Ok(()));
     assert_eq!(k.close(), Ok(()));
@@ -208,6 +208,182 @@ fn forced_and_refused() {
     let mut k = forced_table(0);
     assert_eq!([k.fsnd_dtq(3, 1, 8), k.fsnd_dtq(1, 1, 8)], [Err(E_OACV), Err(E_ILUSE)]);
     let mut open = Kernel::EMPTY;
-    assert_eq!([open.fresh(1, 1), open.add_task(1), open.add_queue(1, 0, 1, None)], [Ok(()); 3]);
+    assert_eq!([open.fresh(1, 1), open.add_task(1, 1), open.add_queue(1, 0, 1, None)], [Ok(()); 3]);
     assert_eq!(open.fsnd_dtq(1, 1, 8), Err(E_CTX));
+}
+
+/// The first hit wins: closed, full, domain, priority.
+#[test]
+fn priorities() {
+    let mut k = Kernel::EMPTY;
+    assert_eq!(k.fresh(2, 1), Ok(()));
+    assert_eq!([0, 17, 257, u32::MAX].map(|priority| k.add_task(1, priority)), [Err(E_PAR); 4]);
+    assert_eq!([1, 16].map(|priority| k.add_task(1, priority)), [Ok(()); 2]);
+    assert_eq!([TDOM_NONE, 0, 3].map(|domain| k.add_task(domain, 0)), [Err(E_ID); 3]);
+    assert_eq!([k.add_task(TDOM_KERNEL, 0), k.add_task(TDOM_KERNEL, 16)], [Err(E_PAR), Ok(())]);
+    let dump =
+        ["task 1 domain=1 ready priority=1", "task 2 domain=1 ready priority=16", "task 3 domain=-1 ready priority=16"];
+    assert_eq!(k.dump()[1..], dump.map(|line| format!("  {line}")));
+    while k.add_task(2, 7).is_ok() {}
+    assert_eq!(k.ready().len(), MAX_TASKS);
+    assert_eq!([(1, 1), (1, 0), (0, 0)].map(|(domain, priority)| k.add_task(domain, priority)), [Err(E_NOID); 3]);
+    assert_eq!([k.close(), k.add_task(0, 0)], [Ok(()), Err(E_CTX)]);
+}
+
+/// Domain before attribute, attribute before numbers.
+#[test]
+fn order_attributes() {
+    let mut k = Kernel::EMPTY;
+    assert_eq!(k.fresh(1, 1), Ok(()));
+    for (atr, taken) in [(0, Ok(())), (1, Ok(())), (2, Err(E_RSATR)), (3, Err(E_RSATR)), (u32::MAX, Err(E_RSATR))] {
+        assert_eq!([k.add_semaphore(1, atr, 0, 1, None), k.add_queue(1, atr, 1, None)], [taken; 2]);
+        let bad = taken.and(Err(E_PAR));
+        assert_eq!([k.add_semaphore(1, atr, 2, 1, None), k.add_queue(1, atr, 257, None)], [bad; 2]);
+        assert_eq!([k.add_semaphore(2, atr, 0, 1, None), k.add_queue(0, atr, 1, None)], [Err(E_ID); 2]);
+    }
+    let attributes = |line: &String| line.split(" attr=").nth(1).map(str::to_string);
+    assert_eq!(k.dump().iter().filter_map(attributes).collect::<Vec<_>>(), ["0", "1", "0", "1"]);
+}
+
+/// Task 1 of the kernel, and tasks of these priorities from 2 on; a semaphore and a queue for everyone.
+fn ordered_table(atr: u32, capacity: u32, priorities: &[u32]) -> Kernel {
+    let mut k = Kernel::EMPTY;
+    assert_eq!([k.fresh(2, 1), k.add_task(TDOM_KERNEL, 16)], [Ok(()); 2]);
+    for (number, &priority) in priorities.iter().enumerate() {
+        assert_eq!(k.add_task(1 + number as i32 % 2, priority), Ok(()));
+    }
+    assert_eq!(k.add_semaphore(TDOM_NONE, atr, 0, 2, None), Ok(()));
+    assert_eq!(k.add_queue(TDOM_NONE, atr, capacity, None), Ok(()));
+    assert_eq!(k.close(), Ok(()));
+    k
+}
+
+/// The first waiter and the count that a refer tells.
+fn semaphore_1(k: &Kernel) -> (u32, u32) {
+    let told = k.ref_sem(1, 1).expect("the kernel may refer");
+    (told.first_waiter, told.count)
+}
+
+/// Whom signals release, until nobody waits.
+fn signalled(k: &mut Kernel) -> Vec<u32> {
+    std::iter::from_fn(|| k.sig_sem(1, 1).ok().and_then(|done| done.released)).map(|released| released.task).collect()
+}
+
+/// The words that receives hand out, and whom each of them releases.
+fn received(k: &mut Kernel) -> Vec<(u32, u32)> {
+    let released = |done: Done| done.released.map_or(0, |released| released.task);
+    std::iter::from_fn(|| k.prcv_dtq(1, 1).ok().map(|done| (done.word, released(done)))).collect()
+}
+
+#[test]
+fn three_on_a_semaphore() {
+    for (atr, firsts, released) in [(TA_TPRI, [2, 3, 3], [3, 2, 4]), (TA_TFIFO, [2, 2, 2], [2, 3, 4])] {
+        let mut k = ordered_table(atr, 0, &[5, 2, 5]);
+        for (task, first) in [2, 3, 4].into_iter().zip(firsts) {
+            assert_eq!(k.wai_sem(task, 1), WAITS);
+            assert_eq!(semaphore_1(&k), (first, 0));
+        }
+        let line = format!("waiters={} attr={atr}", released.map(|task| task.to_string()).join(","));
+        assert!(k.dump()[5].ends_with(&line), "{:?}", k.dump());
+        assert_eq!(signalled(&mut k), released);
+        // The signal that released nobody has been counted.
+        assert_eq!(semaphore_1(&k), (0, 1));
+    }
+}
+
+/// With room for two words, which go before, and with none.
+#[test]
+fn three_senders() {
+    for (atr, order) in [(TA_TPRI, [4, 2, 3]), (TA_TFIFO, [2, 3, 4])] {
+        for capacity in [0, 2] {
+            let mut k = ordered_table(atr, capacity, &[9, 9, 8]);
+            assert_eq!(
+                (0..capacity).map(|word| k.snd_dtq(1, 1, 10 + word)).collect::<Vec<_>>(),
+                vec![OK; capacity as usize]
+            );
+            assert_eq!([2, 3, 4].map(|task| k.snd_dtq(task, 1, 100 * task as u32)), [WAITS; 3]);
+            assert_eq!(queue_of(&k), (order[0], 0, capacity));
+            let senders = order.map(|task| format!("{task}:{}", 100 * task)).join(",");
+            assert!(k.dump()[6].ends_with(&format!("senders={senders} receivers= attr={atr}")), "{:?}", k.dump());
+            let words = (0..capacity).map(|word| 10 + word).chain(order.map(|task| 100 * task));
+            let releases = order.into_iter().chain([0, 0]);
+            assert_eq!(received(&mut k), words.zip(releases).collect::<Vec<_>>());
+        }
+    }
+}
+
+/// First sender, first receiver, number of buffered words of queue 1.
+fn queue_of(k: &Kernel) -> (u32, u32, u32) {
+    let told = k.ref_dtq(1, 1).expect("the kernel may refer");
+    (told.first_waiter, told.first_receiver, told.count)
+}
+
+#[test]
+fn receivers_stay_first_come() {
+    for atr in [TA_TFIFO, TA_TPRI] {
+        let mut k = ordered_table(atr, 1, &[16, 8, 1]);
+        assert_eq!([2, 3, 4].map(|task| k.rcv_dtq(task, 1)), [WAITS; 3]);
+        assert_eq!(queue_of(&k), (0, 2, 0));
+        assert!(k.dump()[6].ends_with(&format!("buffer= senders= receivers=2,3,4 attr={atr}")), "{:?}", k.dump());
+        assert_eq!(k.snd_dtq(1, 1, 7), done(0, 2, 7));
+        assert_eq!([k.fsnd_dtq(1, 1, 8), k.psnd_dtq(1, 1, 9)], [done(0, 3, 8), done(0, 4, 9)]);
+    }
+}
+
+/// Who comes late and is more urgent is released before all others, again and again; equals take turns.
+#[test]
+fn a_late_one_that_is_more_urgent() {
+    let mut k = ordered_table(TA_TPRI, 0, &[3, 3, 16, 1]);
+    assert_eq!([4, 2, 3, 5].map(|task| k.wai_sem(task, 1)), [WAITS; 4]);
+    for _ in 0..3 {
+        assert_eq!([k.sig_sem(1, 1), k.wai_sem(5, 1)], [done(0, 5, 0), WAITS]);
+    }
+    assert_eq!(k.sig_sem(5, 1), Err(E_CTX));
+    assert_eq!([k.sig_sem(1, 1), k.sig_sem(5, 1)], [done(0, 5, 0), done(0, 2, 0)]);
+    assert_eq!([k.wai_sem(2, 1), k.sig_sem(5, 1), k.sig_sem(5, 1)], [WAITS, done(0, 3, 0), done(0, 2, 0)]);
+    assert_eq!(signalled(&mut k), [4]);
+    let mut k = ordered_table(TA_TFIFO, 0, &[3, 3, 16, 1]);
+    assert_eq!([4, 2, 3, 5].map(|task| k.wai_sem(task, 1)), [WAITS; 4]);
+    assert_eq!([k.sig_sem(1, 1), k.wai_sem(4, 1)], [done(0, 4, 0), WAITS]);
+    assert_eq!(signalled(&mut k), [2, 3, 5, 4]);
+}
+
+/// The late sender's word passes those of the others; a forced word passes all, and drops none that waits.
+#[test]
+fn a_late_sender_that_is_more_urgent() {
+    let mut k = ordered_table(TA_TPRI, 1, &[4, 4, 1]);
+    assert_eq!(
+        [k.snd_dtq(1, 1, 1), k.snd_dtq(2, 1, 2), k.snd_dtq(3, 1, 3), k.snd_dtq(4, 1, 4)],
+        [OK, WAITS, WAITS, WAITS]
+    );
+    assert_eq!([k.fsnd_dtq(1, 1, 5), k.psnd_dtq(1, 1, 6)], [OK, Err(E_TMOUT)]);
+    assert_eq!(received(&mut k), [(5, 4), (4, 2), (2, 3), (3, 0)]);
+}
+
+/// A set-vector that denies those who wait changes neither order nor release.
+#[test]
+fn the_order_outlives_a_vector() {
+    let mut k = ordered_table(TA_TPRI, 0, &[2, 1, 2]);
+    assert_eq!([2, 3, 4].map(|task| k.wai_sem(task, 1)), [WAITS; 3]);
+    assert_eq!(k.sac_sem(1, 1, Vector::KERNEL), OK);
+    assert_eq!(signalled(&mut k), [3, 2, 4]);
+}
+
+/// All tasks but one wait, in each order of arrival that a step through their numbers gives.
+#[test]
+fn all_but_one_wait() {
+    let priorities: Vec<u32> = (0..254).map(|number| 1 + number * 7 % 16).collect();
+    for step in [1, 3, 253] {
+        let arrivals: Vec<u32> = (0..254).map(|number| 2 + number * step % 254).collect();
+        let mut sorted = arrivals.clone();
+        sorted.sort_by_key(|&task| priorities[task as usize - 2]);
+        for (atr, order) in [(TA_TFIFO, &arrivals), (TA_TPRI, &sorted)] {
+            let mut k = ordered_table(atr, 0, &priorities);
+            assert!(arrivals.iter().all(|&task| k.wai_sem(task as i32, 1) == WAITS));
+            assert_eq!(k.waiters(Place::Semaphore, 1), (order.clone(), atr == TA_TPRI));
+            assert_eq!(&signalled(&mut k), order);
+            assert!(arrivals.iter().all(|&task| k.snd_dtq(task as i32, 1, task) == WAITS));
+            assert_eq!(received(&mut k), order.iter().map(|&task| (task, task)).collect::<Vec<_>>());
+        }
+    }
 }

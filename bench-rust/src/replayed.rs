@@ -13,8 +13,31 @@ const PROGRAM: &str = "../target/bin/replay";
 
 const ENDS: [i32; 12] = [i32::MIN, -3, -2, -1, 0, 17, 33, 64, 65, 255, 256, i32::MAX];
 
-/// Tasks that a table has from the start, one of them the kernel's.
-const TASKS: usize = 8;
+/// Tasks that a table has from the start, some of them the kernel's: enough for any crowd, or few.
+const TASKS: [usize; 6] = [8, 8, 8, 24, 60, MAX_TASKS];
+
+/// Priorities out of which a table's tasks have theirs: all, few, one only.
+const PRIORITIES: [&[u32]; 5] = [
+    &[1, 2, 3, 4, 5, 6, 7, 8, 9, 10, 11, 12, 13, 14, 15, 16],
+    &[1, 2, 3, 4, 5, 6, 7, 8, 9, 10, 11, 12, 13, 14, 15, 16],
+    &[1, 16],
+    &[4, 4, 5],
+    &[7],
+];
+/// Some of them are good but for bits above the low 8 or 16.
+const NO_PRIORITIES: [u32; 7] = [0, 0, MAX_PRIORITY + 1, MAX_PRIORITY + 1, 257, 0x1_0001, u32::MAX];
+
+/// Words behind `task` that are no entry, and why.
+const BAD_TASKS: [(&str, &str); 5] = [
+    ("", "1 or 2 numbers wanted, 0 given"),
+    (" 1 2 3", "1 or 2 numbers wanted, 3 given"),
+    (" 1 -1", "out of range: -1"),
+    (" 1 4294967296", "out of range: 4294967296"),
+    (" 1 x", "no number: x"),
+];
+
+/// Attributes of a semaphore or queue that are refused.
+const NO_ATTRIBUTES: [u32; 6] = [2, 3, 4, 5, 0x1_0001, u32::MAX];
 
 /// How many calls of a domain a pattern admitted, and how many it denied.
 #[derive(Clone, Copy, Default)]
@@ -31,9 +54,14 @@ struct Script {
     /// User domains that its entries and verdicts are for, and the domain of each task taken.
     domains: usize,
     tasks: Vec<i32>,
+    priorities: &'static [u32],
     judged: BTreeMap<i32, Judged>,
     /// What the forced sends met that passed their checks.
     forced: BTreeMap<&'static str, u32>,
+    /// Where those that began to wait stood then, and the most that waited at one place.
+    joined: BTreeMap<(Place, &'static str), u32>,
+    longest: usize,
+    dumps: u32,
 }
 
 impl Script {
@@ -43,12 +71,96 @@ impl Script {
         self.commands.push('\n');
     }
 
-    fn add_task(&mut self, kernel: &mut Kernel, domain: i32) {
-        let answer = kernel.add_task(domain);
+    fn add_task(&mut self, random: &mut Random, kernel: &mut Kernel, domain: i32) {
+        if random.one_in(100) {
+            let (words, reason) = random.pick(&BAD_TASKS);
+            self.add(format!("task{words}"), format!("bad line: {reason}"));
+        }
+        let good = random.pick(self.priorities);
+        let priority = random.mostly(good, 30, &NO_PRIORITIES);
+        let given = random.mostly(Some(priority), 12, &[None]);
+        let answer = kernel.add_task(domain, given.unwrap_or(1));
         if answer.is_ok() {
             self.tasks.push(domain);
         }
-        self.add(format!("task {domain}"), code(answer));
+        let priority = given.map_or(String::new(), |priority| format!(" {priority}"));
+        self.add(format!("task {domain}{priority}"), code(answer));
+    }
+
+    fn dump(&mut self, kernel: &Kernel) {
+        let mut lines = kernel.dump().into_iter();
+        self.add("dump".to_string(), lines.next().expect("a first line"));
+        self.lines.extend(lines);
+        self.dumps += 1;
+    }
+
+    /// A ready task, of the kernel if there is one, which every object admits.
+    fn keeper(&self, kernel: &Kernel) -> i32 {
+        let ready = kernel.ready();
+        let of_kernel = |task: &&i32| self.tasks[**task as usize - 1] == TDOM_KERNEL;
+        ready.iter().find(of_kernel).or(ready.first()).copied().unwrap_or(1)
+    }
+
+    /// Where a task stands that began to wait.
+    fn count_joined(&mut self, kernel: &Kernel, place: Place, id: i32, task: i32) {
+        let (waiters, by_priority) = kernel.waiters(place, id);
+        let at = waiters.iter().position(|&waiter| waiter == task as u32).expect("it waits");
+        let last = at + 1 == waiters.len();
+        let priority = kernel.priority(task as u32);
+        let ahead = at.checked_sub(1).map_or(0, |ahead| kernel.priority(waiters[ahead]));
+        let stands = match (by_priority, at, last) {
+            (_, 0, true) => "alone",
+            (true, 0, _) => "before all, more urgent",
+            (true, _, false) if ahead == priority => "between, behind an equal",
+            (true, _, false) => "between",
+            (true, ..) if ahead == priority => "last, behind an equal",
+            (true, ..) => "last, less urgent",
+            (false, _, false) => panic!("first come, and not the last"),
+            (false, ..) if ahead > priority && kernel.waiters(Place::Sending, id).1 && place == Place::Receiving => {
+                "first come at a queue by priority, though more urgent"
+            }
+            (false, ..) if ahead > priority => "first come, though more urgent",
+            (false, ..) => "first come",
+        };
+        *self.joined.entry((place, stands)).or_default() += 1;
+        self.longest = self.longest.max(waiters.len());
+    }
+
+    /// A call that may wait: on a semaphore, to send the word, or to receive.
+    fn wait(&mut self, kernel: &mut Kernel, place: Place, task: i32, id: i32, word: u32) -> Result<Done, Er> {
+        let (command, answer) = match place {
+            Place::Semaphore => (format!("wai_sem {task} {id}"), kernel.wai_sem(task, id)),
+            Place::Sending => (format!("snd_dtq {task} {id} {word}"), kernel.snd_dtq(task, id, word)),
+            Place::Receiving => (format!("rcv_dtq {task} {id}"), kernel.rcv_dtq(task, id)),
+        };
+        self.add(command, call(answer));
+        if answer.is_ok_and(|done| done.waiting) {
+            self.count_joined(kernel, place, id, task);
+        }
+        answer
+    }
+
+    /// The call that releases one of those who wait at a place.
+    fn release(&mut self, kernel: &mut Kernel, place: Place, task: i32, id: i32, word: u32) -> Result<Done, Er> {
+        let (command, answer) = match place {
+            Place::Semaphore => (format!("sig_sem {task} {id}"), kernel.sig_sem(task, id)),
+            Place::Sending => (format!("prcv_dtq {task} {id}"), kernel.prcv_dtq(task, id)),
+            Place::Receiving => (format!("psnd_dtq {task} {id} {word}"), kernel.psnd_dtq(task, id, word)),
+        };
+        self.add(command, call(answer));
+        answer
+    }
+
+    fn refer(&mut self, kernel: &Kernel, place: Place, task: i32, id: i32) {
+        match place {
+            Place::Semaphore => {
+                self.add(format!("ref_sem {task} {id}"), refer(kernel.ref_sem(task, id), "waiter", None))
+            }
+            _ => {
+                let answer = refer(kernel.ref_dtq(task, id), "sender", Some("receiver"));
+                self.add(format!("ref_dtq {task} {id}"), answer)
+            }
+        }
     }
 
     /// Whether the forced send was taken.
@@ -198,10 +310,12 @@ fn entry(random: &mut Random, kernel: &mut Kernel, script: &mut Script, last: &m
     let user = script.user(random);
     let good = random.pick(&[TDOM_KERNEL, -2, user, user, user]);
     let domain = random.mostly(good, 9, &ENDS);
-    let atr = random.mostly(0, 10, &[1, 2, 4, 5, 8, u32::MAX]);
+    let of_region = random.mostly(0, 10, &[1, 2, 4, 5, 8, u32::MAX]);
+    let order = random.pick(&[TA_TFIFO, TA_TPRI]);
+    let atr = random.mostly(order, 10, &NO_ATTRIBUTES);
     let vector = (!random.one_in(3)).then(|| random_vector(random));
     match random.below(4) {
-        0 => script.add_task(kernel, domain),
+        0 => script.add_task(random, kernel, domain),
         1 => {
             let (start, max) = (random.pick(&[0, 0, 1, 2, 65_535]), random.pick(&[0, 1, 2, 2, 65_535, 65_536]));
             let answer = code(kernel.add_semaphore(domain, atr, start, max, vector));
@@ -215,7 +329,7 @@ fn entry(random: &mut Random, kernel: &mut Kernel, script: &mut Script, last: &m
         }
         _ => {
             let (base, size) = last.next(random);
-            let protection = last.protection.next(random, Protection { domain, atr, vector });
+            let protection = last.protection.next(random, Protection { domain, atr: of_region, vector });
             let Protection { domain, atr, vector } = protection;
             let answer = kernel.add_region(domain, atr, base, size, vector);
             if answer.is_ok() {
@@ -228,10 +342,10 @@ fn entry(random: &mut Random, kernel: &mut Kernel, script: &mut Script, last: &m
 
 fn semaphore_call(random: &mut Random, kernel: &mut Kernel, script: &mut Script, task: i32, id: i32) {
     match random.below(6) {
-        0 | 1 => script.add(format!("sig_sem {task} {id}"), call(kernel.sig_sem(task, id))),
+        0 | 1 => _ = script.release(kernel, Place::Semaphore, task, id, 0),
         2 => script.add(format!("pol_sem {task} {id}"), call(kernel.pol_sem(task, id))),
-        3 => script.add(format!("wai_sem {task} {id}"), call(kernel.wai_sem(task, id))),
-        4 => script.add(format!("ref_sem {task} {id}"), refer(kernel.ref_sem(task, id), "waiter", None)),
+        3 => _ = script.wait(kernel, Place::Semaphore, task, id, 0),
+        4 => script.refer(kernel, Place::Semaphore, task, id),
         _ => {
             let vector = random_vector(random);
             let answer = call(kernel.sac_sem(task, id, vector));
@@ -244,14 +358,12 @@ fn queue_call(random: &mut Random, kernel: &mut Kernel, script: &mut Script, tas
     let any = random.next();
     let word = random.pick(&[0, 1, 700, u32::MAX, any, any, any]);
     match random.below(9) {
-        0 | 1 => script.add(format!("psnd_dtq {task} {id} {word}"), call(kernel.psnd_dtq(task, id, word))),
-        2 => script.add(format!("snd_dtq {task} {id} {word}"), call(kernel.snd_dtq(task, id, word))),
-        3 => script.add(format!("prcv_dtq {task} {id}"), call(kernel.prcv_dtq(task, id))),
-        4 => script.add(format!("rcv_dtq {task} {id}"), call(kernel.rcv_dtq(task, id))),
-        5 | 6 => {
-            script.force(kernel, task, id, word);
-        }
-        7 => script.add(format!("ref_dtq {task} {id}"), refer(kernel.ref_dtq(task, id), "sender", Some("receiver"))),
+        0 | 1 => _ = script.release(kernel, Place::Receiving, task, id, word),
+        2 => _ = script.wait(kernel, Place::Sending, task, id, word),
+        3 => _ = script.release(kernel, Place::Sending, task, id, 0),
+        4 => _ = script.wait(kernel, Place::Receiving, task, id, 0),
+        5 | 6 => _ = script.force(kernel, task, id, word),
+        7 => script.refer(kernel, Place::Sending, task, id),
         _ => {
             let vector = random_vector(random);
             let answer = call(kernel.sac_dtq(task, id, vector));
@@ -262,15 +374,61 @@ fn queue_call(random: &mut Random, kernel: &mut Kernel, script: &mut Script, tas
 
 /// Forced sends to one queue, some of them more than any queue can hold, then poll-receives; a refusal ends each.
 fn burst(random: &mut Random, kernel: &mut Kernel, script: &mut Script) {
-    let (task, id) = (random.below(TASKS) as i32 + 1, random.below(8) as i32 + 1);
+    let (task, id) = (random.below(TASKS[0]) as i32 + 1, random.below(8) as i32 + 1);
     let most = random.pick(&[5, 5, 20, 300]);
     let _ = (0..most).all(|word| script.force(kernel, task, id, word));
-    for _ in 0..random.below(most as usize + 1) {
-        let answer = kernel.prcv_dtq(task, id);
-        script.add(format!("prcv_dtq {task} {id}"), call(answer));
-        if answer.is_err() {
+    let _ = (0..random.below(most as usize + 1)).all(|_| script.release(kernel, Place::Sending, task, id, 0).is_ok());
+}
+
+/// Tasks begin to wait at one place, one after the other, some are released in between, and then as many as chance has it.
+fn crowd(random: &mut Random, kernel: &mut Kernel, script: &mut Script) {
+    let place = random.pick(&[Place::Semaphore, Place::Semaphore, Place::Sending, Place::Sending, Place::Receiving]);
+    let (id, most) = (random.pick(&[1, 1, 1, 2, 2, 3]), random.pick(&[4, 12, 40, 300]));
+    if place == Place::Receiving {
+        let keeper = script.keeper(kernel);
+        // Nobody waits to receive as long as there is a word or a sender.
+        let _ = (0..most).all(|_| script.release(kernel, Place::Sending, keeper, id, 0).is_ok());
+    }
+    for word in 0..most {
+        let keeper = script.keeper(kernel);
+        let ready: Vec<i32> = kernel.ready().into_iter().filter(|&task| task != keeper).collect();
+        if ready.is_empty() {
+            break;
+        }
+        let answer = script.wait(kernel, place, random.pick(&ready), id, word);
+        if matches!(answer, Err(code) if code != E_OACV) {
             return;
         }
+        match random.below(60) {
+            0..=5 => _ = script.release(kernel, place, keeper, id, word),
+            6..=11 => script.refer(kernel, place, keeper, id),
+            12 => script.dump(kernel),
+            _ => {}
+        }
+    }
+    for word in 0..random.below(most as usize + 1) {
+        let keeper = script.keeper(kernel);
+        if script.release(kernel, place, keeper, id, word as u32).is_err() {
+            break;
+        }
+        match random.below(60) {
+            0..=5 => script.refer(kernel, place, keeper, id),
+            6 => script.dump(kernel),
+            _ => {}
+        }
+    }
+}
+
+/// Objects that everyone is admitted to, for the most part, in either order and with little room: the first of their kinds.
+fn crowded(random: &mut Random, kernel: &mut Kernel, script: &mut Script) {
+    for _ in 0..2 {
+        let (atr, vector) = (random.pick(&[TA_TFIFO, TA_TPRI]), random.one_in(4).then(|| random_vector(random)));
+        let (start, max) = (random.pick(&[0, 0, 1]), random.pick(&[1, 2, 65_535]));
+        let answer = code(kernel.add_semaphore(TDOM_NONE, atr, start, max, vector));
+        script.add(format!("sem {TDOM_NONE} {atr} {start} {max}{}", given(vector)), answer);
+        let (atr, capacity) = (random.pick(&[TA_TFIFO, TA_TPRI]), random.pick(&[0, 0, 1, 2, 5]));
+        let answer = code(kernel.add_queue(TDOM_NONE, atr, capacity, vector));
+        script.add(format!("dtq {TDOM_NONE} {atr} {capacity}{}", given(vector)), answer);
     }
 }
 
@@ -301,10 +459,15 @@ fn random_script(random: &mut Random) -> Script {
     let unit = random.mostly(good, 9, &NO_UNITS);
     let given = unit.map_or(String::new(), |unit| format!(" {unit}"));
     script.add(format!("fresh {n}{given}"), code(kernel.fresh(n, unit.unwrap_or(1))));
-    let kernels = random.below(TASKS);
-    for number in 0..TASKS {
-        let domain = if number == kernels { TDOM_KERNEL } else { script.user(random) };
-        script.add_task(&mut kernel, domain);
+    script.priorities = random.pick(&PRIORITIES);
+    let tasks = random.pick(&TASKS);
+    let kernels = random.below(TASKS[0]);
+    for number in 0..tasks {
+        let domain = if number % TASKS[0] == kernels { TDOM_KERNEL } else { script.user(random) };
+        script.add_task(random, &mut kernel, domain);
+    }
+    if !random.one_in(4) {
+        crowded(random, &mut kernel, &mut script);
     }
     // The largest number can fill every kind up.
     for _ in 0..random.pick(&[8, 20, 90, 1_500]) {
@@ -314,12 +477,20 @@ fn random_script(random: &mut Random) -> Script {
         script.add("close".to_string(), code(kernel.close()));
     }
     for _ in 0..400 {
-        let good = random.below(TASKS + 2) as i32 + 1;
+        let ready = kernel.ready();
+        let any = random.below(tasks + 2) as i32 + 1;
+        let good = if ready.is_empty() || random.one_in(3) { any } else { random.pick(&ready) };
         let task = random.mostly(good, 25, &ENDS);
         let good = random.pick(&[1, 1, 1, 2, 2, 3, 4, 5, 7]);
         let id = random.mostly(good, 25, &ENDS);
         if random.one_in(60) {
             burst(random, &mut kernel, &mut script);
+        }
+        if random.one_in(80) {
+            crowd(random, &mut kernel, &mut script);
+        }
+        if random.one_in(160) {
+            script.dump(&kernel);
         }
         match random.below(12) {
             0 => verdict(random, &mut kernel, &mut script, &last),
@@ -331,6 +502,7 @@ fn random_script(random: &mut Random) -> Script {
             }
         }
     }
+    script.dump(&kernel);
     script
 }
 
@@ -351,6 +523,7 @@ pub fn compare() {
     let (mut random, mut lines, mut codes) = (Random::new(SEED), 0, BTreeMap::new());
     let mut judged: BTreeMap<i32, Judged> = BTreeMap::new();
     let mut forced = BTreeMap::new();
+    let (mut joined, mut longest, mut dumps) = (BTreeMap::new(), 0, 0);
     for number in 0..SCRIPTS {
         let script = random_script(&mut random);
         let output = replay(&script.commands);
@@ -360,14 +533,16 @@ pub fn compare() {
         assert_eq!(output.lines().count(), script.lines.len(), "script {number}: how many lines");
         lines += script.lines.len();
         script.forced.into_iter().for_each(|(met, count)| *forced.entry(met).or_insert(0) += count);
+        script.joined.into_iter().for_each(|(stands, count)| *joined.entry(stands).or_insert(0) += count);
+        longest = longest.max(script.longest);
+        dumps += script.dumps;
         for (domain, Judged { admitted, denied }) in script.judged {
             let sum = judged.entry(domain).or_default();
             sum.admitted += admitted;
             sum.denied += denied;
         }
-        for outcome in
-            script.lines.iter().filter_map(|line| line.split_whitespace().skip_while(|&word| word != "->").nth(1))
-        {
+        let answers = script.lines.iter().filter(|line| !line.starts_with("dump"));
+        for outcome in answers.filter_map(|line| line.split_whitespace().skip_while(|&word| word != "->").nth(1)) {
             *codes.entry(outcome.to_string()).or_insert(0) += 1;
         }
     }
@@ -377,4 +552,8 @@ pub fn compare() {
     let (admitted, denied) = users.fold((u32::MAX, u32::MAX), |(a, d), one| (a.min(one.admitted), d.min(one.denied)));
     println!("Of each user domain, 1 to {MAX_DOMAINS}, at least {admitted} calls were admitted and {denied} denied.");
     println!("What forced sends met: {forced:?}.");
+    println!("{dumps} dumps. At most {longest} waited at one place. Where those stood that began to wait:");
+    for ((place, stands), count) in joined {
+        println!("  {:<10} {stands:<54} {count:>8}", format!("{place:?}"));
+    }
 }
