@@ -1,5 +1,6 @@
 // What the loops count, so that the results of two kernels can be compared.
 use itron::code::E_OK;
+use itron::limit::MAX_TASKS;
 use model::Outcome;
 use model::Released;
 use std::num::wrapping_add_u32;
@@ -22,4 +23,12 @@ pub(crate) fn releases(count: u32, released: Released) -> u32 {
         return count;
     }
     wrapping_add_u32(count, 1)
+}
+
+// A sum with a task's number.
+pub(crate) fn with_task(sum: u32, task: usize) -> u32 {
+    if MAX_TASKS < task {
+        return sum;
+    }
+    wrapping_add_u32(sum, task as u32)
 }

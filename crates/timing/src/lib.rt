@@ -4,5 +4,6 @@ pub mod count;
 pub mod dtq;
 pub mod each;
 pub mod mem;
+pub mod order;
 pub mod sem;
 pub mod table;

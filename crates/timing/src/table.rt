@@ -8,7 +8,7 @@ use itron::limit::MAX_REGIONS;
 use kernel::state::State;
 use regions::entry::RegionEntry;
 
-const REGION_SIZE: u32 = 4096;
+pub(crate) const REGION_SIZE: u32 = 4096;
 
 const QUEUES: usize = 8;
 
