@@ -2,10 +2,9 @@
 
 use crate::plain_runs::{self, Each, EACH_QUEUES};
 use crate::{clock, ours, table, Times, RUNS};
-use std::hint::black_box;
 
 const CAPACITIES: [u32; 6] = [1, 2, 4, 16, 64, 256];
-const RUN_NS: f64 = 0.02e9;
+const RUN_NS: f64 = 0.1e9;
 const TASK: i32 = 1;
 
 /// As many calls on each queue as it holds words.
@@ -38,9 +37,7 @@ fn same_results() {
 
 /// ns of a call in one run.
 fn time(work: fn(u32, &Each) -> u32, rounds: u32, each: &Each) -> f64 {
-    let start = clock::now();
-    black_box(work(black_box(rounds), black_box(each)));
-    (clock::now() - start) / f64::from(rounds) / each.ids.len() as f64
+    clock::round(work, rounds, each) / each.ids.len() as f64
 }
 
 /// The kinds of calls take turns, so that a busy moment of the machine meets all of them.

@@ -4,7 +4,6 @@ use crate::compare::Random;
 use crate::plain::{MAX_PRIORITY, MAX_TASKS, MIN_PRIORITY, TA_TFIFO, TA_TPRI};
 use crate::plain_runs::{self, Crowd};
 use crate::{clock, ours, table, Times, RUNS};
-use std::hint::black_box;
 
 const SEED: u64 = 0x5eed_0010;
 /// One task is left to signal and to receive.
@@ -81,23 +80,11 @@ fn same_results() -> usize {
     same
 }
 
-fn elapsed(work: Work, rounds: u32, crowd: &Crowd) -> f64 {
-    let start = clock::now();
-    black_box(work(black_box(rounds), black_box(crowd)));
-    clock::now() - start
-}
-
-/// ns of a round in one run, without the table and its waits: what no rounds cost is left out.
-fn time(work: Work, rounds: u32, crowd: &Crowd) -> f64 {
-    let none = elapsed(work, 0, crowd);
-    (elapsed(work, rounds, crowd) - none) / f64::from(rounds)
-}
-
 /// Rounds for a run of the wanted time, judged by a run of at least a tenth of it.
 fn enough_rounds(work: Work, crowd: &Crowd) -> u32 {
     let mut rounds = 1_000;
     loop {
-        let ns = time(work, rounds, crowd);
+        let ns = clock::round(work, rounds, crowd);
         if ns * f64::from(rounds) > RUN_NS / 10.0 || rounds > u32::MAX / 2 {
             return (RUN_NS / ns) as u32;
         }
@@ -112,7 +99,7 @@ fn measure(work: Work, waiters: usize, calls_a_round: f64) -> [Times; KINDS] {
     let mut runs = [[0.0; RUNS]; KINDS];
     for run in 0..RUNS {
         for (kind, crowd) in kinds.iter().enumerate() {
-            runs[kind][run] = time(work, rounds[kind], crowd);
+            runs[kind][run] = clock::round(work, rounds[kind], crowd);
         }
     }
     runs.map(|runs| Times::of(runs, calls_a_round))
