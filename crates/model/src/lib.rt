@@ -7,6 +7,7 @@ use access::vector::Vector;
 
 pub mod check;
 pub mod dtq;
+pub mod order;
 pub mod sem;
 
 // What a call answers: a code, or that the caller waits.
