@@ -5,9 +5,9 @@ use crate::dtq::QueueRequest;
 use crate::sem::SemaphoreRequest;
 use access::vector::Vector;
 
+pub mod attribute;
 pub mod check;
 pub mod dtq;
-pub mod order;
 pub mod sem;
 
 // What a call answers: a code, or that the caller waits.

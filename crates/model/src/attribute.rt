@@ -1,4 +1,4 @@
-// In which order tasks wait at an object, by its attribute (request T-10).
+// What an object's attribute says: in which order tasks wait at it (request T-10).
 ghost use mathlib.Core.Path.{_≡_};
 ghost use Rattle.model.specs.Waits.{isOrder, byPriority};
 use itron::attribute::TA_TFIFO;
@@ -8,10 +8,7 @@ use itron::attribute::TA_TPRI;
 pub fn is_order(attribute: u32) -> bool
     ensures { λ r. ⌜ r ≡ isOrder attribute ⌝ }
 {
-    if attribute == TA_TFIFO {
-        return true;
-    }
-    attribute == TA_TPRI
+    attribute == TA_TFIFO || attribute == TA_TPRI
 }
 
 // Whether tasks stand by priority; otherwise they stand as they came.
