@@ -5,7 +5,7 @@ ghost use lib.ListN.{length};
 ghost use Rattle.model.specs.Acts.{operationOf};
 ghost use Rattle.model.specs.Answers as Model;
 ghost use Rattle.model.specs.Semaphores.{actOf, operation, does, onSignal, onAcquire, told};
-ghost use Rattle.tasks.specs.View.{domainsOf, waitsOf};
+ghost use Rattle.tasks.specs.View.{entriesOf, waitsOf};
 ghost use Rattle.tasks.specs.Held as TasksHeld;
 ghost use Rattle.tasks.specs.Held.{Passed};
 ghost use Rattle.semaphore.specs.View.{semsOf};
@@ -19,6 +19,7 @@ use model::Info;
 use model::Patience;
 use model::Reply;
 use model::Side;
+use model::attribute;
 use model::check::Check;
 use model::sem::SemaphoreCall;
 use model::sem::SemaphoreRequest;
@@ -76,12 +77,13 @@ pub(crate) fn ended(end: Ended, semaphores: Semaphores) -> Effect
 // Signal.
 pub(crate) fn signal(tasks: Tasks, semaphores: Semaphores, object: usize) -> Effect
     requires { ⌜ TasksHeld.Held tasks × Held semaphores × (object < length (semsOf semaphores)) ⌝ }
-    ensures { λ r. ⌜ r ≡ effectAs (domainsOf tasks) (onSignal (waitsOf tasks) (semsOf semaphores) (suc object)) ⌝ }
+    ensures { λ r. ⌜ r ≡ effectAs (entriesOf tasks) (onSignal (entriesOf tasks) (waitsOf tasks) (semsOf semaphores) (suc object)) ⌝ }
 {
-    match tasks.first(Side::OnSem, object) {
+    let mut semaphore = semaphores.records[object];
+    let by_priority = attribute::by_priority(semaphore.attribute);
+    match tasks.first(Side::OnSem, object, by_priority) {
         First::Waiter(waiter, _) => ended(tasks.wake(waiter, 0, 0), semaphores),
         First::Nobody => {
-            let mut semaphore = semaphores.get(object);
             if semaphore.count >= semaphore.max {
                 return refused(tasks, semaphores, E_QOVR);
             }
@@ -99,8 +101,8 @@ pub(crate) fn acquire(
     object: usize,
     patience: Patience,
 ) -> Effect
-    requires { ⌜ TasksHeld.Held tasks × Held semaphores × TasksHeld.Free (domainsOf tasks) (waitsOf tasks) task × (object < length (semsOf semaphores)) ⌝ }
-    ensures { λ r. ⌜ r ≡ effectAs (domainsOf tasks) (onAcquire (waitsOf tasks) (semsOf semaphores) (suc task) (suc object) patience) ⌝ }
+    requires { ⌜ TasksHeld.Held tasks × Held semaphores × TasksHeld.Free (entriesOf tasks) (waitsOf tasks) task × (object < length (semsOf semaphores)) ⌝ }
+    ensures { λ r. ⌜ r ≡ effectAs (entriesOf tasks) (onAcquire (waitsOf tasks) (semsOf semaphores) (suc task) (suc object) patience) ⌝ }
 {
     let mut semaphore = semaphores.get(object);
     if 0 < semaphore.count {
@@ -121,8 +123,8 @@ pub(crate) fn own(
     object: usize,
     call: SemaphoreCall,
 ) -> Effect
-    requires { ⌜ TasksHeld.Held tasks × Held semaphores × TasksHeld.Free (domainsOf tasks) (waitsOf tasks) task × (object < length (semsOf semaphores)) ⌝ }
-    ensures { λ r. ⌜ r ≡ effectAs (domainsOf tasks) (does (waitsOf tasks) (semsOf semaphores) (suc task) (suc object) call) ⌝ }
+    requires { ⌜ TasksHeld.Held tasks × Held semaphores × TasksHeld.Free (entriesOf tasks) (waitsOf tasks) task × (object < length (semsOf semaphores)) ⌝ }
+    ensures { λ r. ⌜ r ≡ effectAs (entriesOf tasks) (does (entriesOf tasks) (waitsOf tasks) (semsOf semaphores) (suc task) (suc object) call) ⌝ }
 {
     match call {
         SemaphoreCall::Signal => signal(tasks, semaphores, object),
@@ -133,10 +135,11 @@ pub(crate) fn own(
 // Refer.
 pub(crate) fn refer(tasks: Tasks, semaphores: Semaphores, object: usize) -> Effect
     requires { ⌜ TasksHeld.Held tasks × Held semaphores × (object < length (semsOf semaphores)) ⌝ }
-    ensures { λ r. ⌜ r ≡ effectAs (domainsOf tasks) (Model.effect (Model.tells (told (waitsOf tasks) (semsOf semaphores) (suc object))) (waitsOf tasks) (semsOf semaphores)) ⌝ }
+    ensures { λ r. ⌜ r ≡ effectAs (entriesOf tasks) (Model.effect (Model.tells (told (entriesOf tasks) (waitsOf tasks) (semsOf semaphores) (suc object))) (waitsOf tasks) (semsOf semaphores)) ⌝ }
 {
-    let first = tasks.first_number(Side::OnSem, object);
-    let semaphore = semaphores.get(object);
+    let semaphore = semaphores.records[object];
+    let by_priority = attribute::by_priority(semaphore.attribute);
+    let first = tasks.first_number(Side::OnSem, object, by_priority);
     let vector = semaphore.vector;
     Effect {
         reply: Reply::plain(E_OK, 0),

@@ -16,6 +16,7 @@ use itron::code::E_OK;
 use itron::code::E_PAR;
 use itron::code::E_RSATR;
 use itron::limit::MAX_COUNT;
+use model::attribute;
 use model::sem::Semaphore;
 
 pub struct SemaphoreEntry {
@@ -30,7 +31,7 @@ pub struct SemaphoreEntry {
 pub fn check(attribute: u32, start: u32, max: u32) -> i32
     ensures { λ r. ⌜ r ≡ resultOf (entryCheck attribute start max) ⌝ }
 {
-    if attribute != 0 {
+    if !attribute::is_order(attribute) {
         return E_RSATR;
     }
     if max < 1 {
