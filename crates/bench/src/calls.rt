@@ -3,6 +3,7 @@ ghost use Rattle.kernel.specs.Valid.{Valid};
 use crate::names;
 use crate::say::patterns;
 use crate::say::say;
+use crate::say::say_queue;
 use crate::say::say_semaphore;
 use access::vector::Vector;
 use kernel::state::State;
@@ -115,6 +116,14 @@ pub fn rcv_dtq(s: State, task: i32, id: i32) -> State
 {
     label(task, b" receives from queue ", id);
     say(s.rcv_dtq(task, id))
+}
+
+pub fn ref_dtq(s: State, task: i32, id: i32) -> State
+    requires { ⌜ Valid s ⌝ }
+    ensures { λ r. ⌜ Valid r ⌝ }
+{
+    label(task, b" refers to queue ", id);
+    say_queue(s.ref_dtq(task, id))
 }
 
 pub fn sac_dtq(s: State, task: i32, id: i32, vector: Vector) -> State

@@ -41,6 +41,11 @@ fn label(kind: &[u8], domain: i32) {
     signed(domain);
 }
 
+fn label_task(domain: i32, priority: u32) {
+    label(b"task", domain);
+    named(b", priority ", priority as u64);
+}
+
 fn label_semaphore(domain: i32, attribute: u32, start: u32, max: u32, vector: Choice) {
     label(b"semaphore", domain);
     named(b", attribute ", attribute as u64);
@@ -73,12 +78,12 @@ pub fn fresh(n: i32, unit: u32) -> State
     say_entered(State::fresh(n, unit))
 }
 
-pub fn add_task(s: State, domain: i32) -> State
+pub fn add_task(s: State, domain: i32, priority: u32) -> State
     requires { ⌜ Valid s ⌝ }
     ensures { λ r. ⌜ Valid r ⌝ }
 {
-    label(b"task", domain);
-    say_entered(s.add_task(domain))
+    label_task(domain, priority);
+    say_entered(s.add_task(domain, priority))
 }
 
 pub fn add_semaphore(

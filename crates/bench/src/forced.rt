@@ -97,8 +97,8 @@ fn checks(mut s: State)
 fn capacity_1() {
     heading(b"Forced send: on capacity 1");
     let mut s = fresh(2, PAGE);
-    s = add_task(s, 1);
-    s = add_task(s, 2);
+    s = add_task(s, 1, 1);
+    s = add_task(s, 2, 1);
     s = add_queue(s, NO_DOMAIN, 0, 1, given(1, 2, 0, 3));
     s = fsnd_dtq(s, 1, 1, 10);
     s = close(s);

@@ -1,10 +1,11 @@
-// The bench runs and the easy slips of document 01, with forced sends, units and chains of regions (document 02, T-05, T-06 and T-09),
-// through the kernel's public operations, one line for each step.
+// The bench runs and the easy slips of document 01, with forced sends, priority order, units and chains of regions (document 02,
+// T-05, T-10, T-06 and T-09), through the kernel's public operations, one line for each step.
 pub mod calls;
 pub mod chains;
 pub mod entries;
 pub mod forced;
 pub mod names;
+pub mod priority;
 pub mod runs;
 pub mod say;
 pub mod slips;
@@ -24,6 +25,7 @@ fn main() {
     runs::numbers(table);
     runs::regions(table);
     forced::all(table);
+    priority::all();
     units::all();
     chains::all();
     slips::all(table);

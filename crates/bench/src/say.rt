@@ -68,3 +68,18 @@ pub fn say_semaphore(answer: Answer) -> State
     patterns(b", vector", vector);
     state
 }
+
+// As a semaphore's, of a queue.
+pub fn say_queue(answer: Answer) -> State
+    requires { ⌜ Valid (answer .state) ⌝ }
+    ensures { λ r. ⌜ Valid r ⌝ }
+{
+    let info = answer.info;
+    let vector = info.vector;
+    let state = say(answer);
+    named(b", first sender ", info.first as u64);
+    named(b", first receiver ", info.second as u64);
+    named(b", words ", info.amount as u64);
+    patterns(b", vector", vector);
+    state
+}

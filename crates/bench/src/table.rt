@@ -28,10 +28,10 @@ pub fn closed() -> State
 {
     heading(b"The table of all runs");
     let mut s = fresh(2, PAGE);
-    s = add_task(s, 1);
-    s = add_task(s, 2);
-    s = add_task(s, KERNEL_DOMAIN);
-    s = add_task(s, 1);
+    s = add_task(s, 1, 1);
+    s = add_task(s, 2, 1);
+    s = add_task(s, KERNEL_DOMAIN, 1);
+    s = add_task(s, 1, 1);
     s = add_semaphore(s, NO_DOMAIN, 0, 1, 2, given(1, 1, 0, 3));
     s = add_queue(s, NO_DOMAIN, 0, 2, given(1, 1, 0, 3));
     s = add_queue(s, NO_DOMAIN, 0, 0, given(3, 3, 0, 3));
@@ -59,6 +59,7 @@ fn say_limits() {
     named(b", words of all queues ", limits.words as u64);
     named(b", of one ", limits.capacity as u64);
     named(b", count ", limits.count as u64);
+    named(b", priority ", limits.priority as u64);
     named(b", addresses ", limits.addresses);
     named(b", units ", limits.finest as u64);
     named(b" to ", limits.coarsest as u64);

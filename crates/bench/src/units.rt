@@ -57,7 +57,7 @@ fn which() {
 fn bad_keeps_nothing() {
     heading(b"Units: after a bad one");
     let mut s = fresh(2, 3);
-    s = add_task(s, 1);
+    s = add_task(s, 1, 1);
     s = enter(s, 0, 1, 1);
 }
 

@@ -32,15 +32,15 @@ pub fn given(normal1: u32, normal2: u32, management: u32, reference: u32) -> Cho
     })
 }
 
-// Tasks 1 and 4 in domain 1, task 2 in domain 2, task 3 in the kernel.
+// Tasks 1 and 4 in domain 1, task 2 in domain 2, task 3 in the kernel, all of one priority.
 fn tasks() -> State
     ensures { λ r. ⌜ Valid r × (viewOf r ≡ enterAll (fresh (pos 2) unit .state) (take 4 entries)) ⌝ }
 {
     let mut s = State::fresh(2, UNIT).state;
-    s = s.add_task(1).state;
-    s = s.add_task(2).state;
-    s = s.add_task(KERNEL_DOMAIN).state;
-    s.add_task(1).state
+    s = s.add_task(1, 1).state;
+    s = s.add_task(2, 1).state;
+    s = s.add_task(KERNEL_DOMAIN, 1).state;
+    s.add_task(1, 1).state
 }
 
 // Semaphore 1, data queues 1 and 2.

@@ -30,7 +30,7 @@ impl Shape {
         Shape::fixed(2, unsigned)
     }
 
-    // One signed number, and at the end what may be left out: an entry's vector, a fresh table's unit.
+    // One signed number, and at the end what may be left out: an entry's vector, a task's priority, a fresh table's unit.
     pub fn open(unsigned: usize, optional: usize) -> Shape
         ensures { λ r. ⌜ (r .signed ≡ 1) × (r .unsigned ≡ unsigned) × (r .optional ≡ optional) ⌝ }
     {

@@ -21,7 +21,7 @@ fn named(word: &[u8]) -> Command {
         return Command::Fresh(0, 0);
     }
     if same(word, b"task") {
-        return Command::Entry(Entry::Task(0));
+        return Command::Entry(Entry::Task(0, 0));
     }
     if same(word, b"close") {
         return Command::Close;

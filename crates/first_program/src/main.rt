@@ -17,8 +17,9 @@ fn tell(call: &[u8], outcome: Outcome) {
 
 fn main() {
     let table = State::fresh(2, MIN_UNIT).state;
-    let table = table.add_task(1).state;
-    let table = table.add_task(2).state;
+    // A task's domain and its priority.
+    let table = table.add_task(1, 1).state;
+    let table = table.add_task(2, 1).state;
     let queue = QueueEntry {
         domain: 1,
         attribute: 0,

@@ -31,15 +31,14 @@ fn put_words(out: &mut [u8; BLOCK], at: usize, state: State, number: usize, coun
     end
 }
 
-// Those who wait on both sides end the line.
+// Those who wait on both sides, the senders first.
 fn put_queue_waiters(out: &mut [u8; BLOCK], at: usize, state: State, number: usize) -> usize
     requires { ⌜ Valid state ⌝ }
 {
     let at = put(out, at, b" senders=");
     let at = put_waiters(out, at, state, Side::Sending, number);
     let at = put(out, at, b" receivers=");
-    let at = put_waiters(out, at, state, Side::Receiving, number);
-    put_byte(out, at, LF)
+    put_waiters(out, at, state, Side::Receiving, number)
 }
 
 // A data queue's line of a dump.
@@ -53,7 +52,9 @@ pub fn put_queue(out: &mut [u8; BLOCK], at: usize, state: State, number: usize) 
     let at = put_vector(out, at, vector);
     let at = put(out, at, b" buffer=");
     let at = put_words(out, at, state, number, queue.count);
-    put_queue_waiters(out, at, state, number)
+    let at = put_queue_waiters(out, at, state, number);
+    let at = put_named(out, at, b" attr=", queue.attribute as u64);
+    put_byte(out, at, LF)
 }
 
 // `CODE sender=T receiver=T count=C vector=P,P,P,P`

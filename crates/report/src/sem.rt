@@ -27,6 +27,7 @@ pub fn put_semaphore(out: &mut [u8; BLOCK], at: usize, state: State, number: usi
     let at = put_vector(out, at, vector);
     let at = put(out, at, b" waiters=");
     let at = put_waiters(out, at, state, Side::OnSem, number);
+    let at = put_named(out, at, b" attr=", semaphore.attribute as u64);
     put_byte(out, at, LF)
 }
 

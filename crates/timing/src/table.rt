@@ -39,7 +39,7 @@ pub fn eight_queues(capacity: u32) -> State
     ensures { λ r. ⌜ Valid r ⌝ }
 {
     let mut s = State::fresh(1, REGION_SIZE).state;
-    s = s.add_task(1).state;
+    s = s.add_task(1, 1).state;
     let mut i: usize = 0;
     while i < QUEUES {
         s = s.add_queue(QueueEntry {

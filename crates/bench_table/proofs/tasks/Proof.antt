@@ -26,10 +26,10 @@ add-task-requires-4 c κs = search needs
 returns : tie.Need-returns
 returns c =
     let p = c .before .add-task4 .ensures in
-    let a = c .before .before .before .before .before .before .before .add-task .ensures .seen ∙ ap (λ (m : State). enter m (task (pos 1)) .state) (c .before .before .before .before .before .before .before .before .before .fresh .ensures .seen) in
-    let d = c .before .before .before .before .before .add-task2 .ensures .seen ∙ ap (λ (m : State). enter m (task (pos 2)) .state) a in
-    let e = c .before .before .before .add-task3 .ensures .seen ∙ ap (λ (m : State). enter m (task kernelDomain) .state) d in
-    (p .valid, p .seen ∙ ap (λ (m : State). enter m (task (pos 1)) .state) e)
+    let a = c .before .before .before .before .before .before .before .add-task .ensures .seen ∙ ap (λ (m : State). enter m (task (pos 1) 1) .state) (c .before .before .before .before .before .before .before .before .before .fresh .ensures .seen) in
+    let d = c .before .before .before .before .before .add-task2 .ensures .seen ∙ ap (λ (m : State). enter m (task (pos 2) 1) .state) a in
+    let e = c .before .before .before .add-task3 .ensures .seen ∙ ap (λ (m : State). enter m (task kernelDomain 1) .state) d in
+    (p .valid, p .seen ∙ ap (λ (m : State). enter m (task (pos 1) 1) .state) e)
 
 pub tasks-spec : {M : Type 1} → statement M
 tasks-spec =
