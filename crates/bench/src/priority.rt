@@ -19,11 +19,13 @@ use crate::table::PAGE;
 use access::domain::KERNEL_DOMAIN;
 use access::domain::NO_DOMAIN;
 use access::vector::Choice;
-use itron::attribute::TA_TFIFO;
-use itron::attribute::TA_TPRI;
-use itron::limit::MAX_PRIORITY;
 use kernel::state::State;
 use text::print::heading;
+
+// The attributes of semaphores and queues, as document 02 names them.
+const FIRST_COME: u32 = 0;
+
+const BY_PRIORITY: u32 = 1;
 
 // The domain comes before the priority, a closed table before both; attributes 2 and 3 are refused.
 fn entries() {
@@ -31,13 +33,13 @@ fn entries() {
     let mut s = fresh(2, PAGE);
     s = add_task(s, 1, 0);
     s = add_task(s, 1, 1);
-    s = add_task(s, 1, MAX_PRIORITY);
-    s = add_task(s, 1, MAX_PRIORITY + 1);
+    s = add_task(s, 1, 16);
+    s = add_task(s, 1, 17);
     s = add_task(s, 3, 0);
-    s = add_semaphore(s, NO_DOMAIN, TA_TPRI, 0, 1, Choice::Default);
+    s = add_semaphore(s, NO_DOMAIN, BY_PRIORITY, 0, 1, Choice::Default);
     s = add_semaphore(s, NO_DOMAIN, 2, 0, 1, Choice::Default);
     s = add_semaphore(s, NO_DOMAIN, 3, 0, 1, Choice::Default);
-    s = add_queue(s, NO_DOMAIN, TA_TPRI, 0, Choice::Default);
+    s = add_queue(s, NO_DOMAIN, BY_PRIORITY, 0, Choice::Default);
     s = add_queue(s, NO_DOMAIN, 2, 0, Choice::Default);
     s = add_queue(s, NO_DOMAIN, 3, 0, Choice::Default);
     s = close(s);
@@ -53,13 +55,13 @@ fn closed() -> State
     s = add_task(s, 1, 3);
     s = add_task(s, 2, 1);
     s = add_task(s, 1, 3);
-    s = add_task(s, KERNEL_DOMAIN, MAX_PRIORITY);
+    s = add_task(s, KERNEL_DOMAIN, 16);
     s = add_task(s, KERNEL_DOMAIN, 1);
-    s = add_semaphore(s, NO_DOMAIN, TA_TPRI, 0, 2, given(3, 3, 0, 3));
-    s = add_semaphore(s, NO_DOMAIN, TA_TFIFO, 0, 2, given(3, 3, 0, 3));
-    s = add_queue(s, NO_DOMAIN, TA_TPRI, 1, given(3, 3, 0, 3));
-    s = add_queue(s, NO_DOMAIN, TA_TFIFO, 1, given(3, 3, 0, 3));
-    s = add_queue(s, NO_DOMAIN, TA_TPRI, 0, given(3, 3, 0, 3));
+    s = add_semaphore(s, NO_DOMAIN, BY_PRIORITY, 0, 2, given(3, 3, 0, 3));
+    s = add_semaphore(s, NO_DOMAIN, FIRST_COME, 0, 2, given(3, 3, 0, 3));
+    s = add_queue(s, NO_DOMAIN, BY_PRIORITY, 1, given(3, 3, 0, 3));
+    s = add_queue(s, NO_DOMAIN, FIRST_COME, 1, given(3, 3, 0, 3));
+    s = add_queue(s, NO_DOMAIN, BY_PRIORITY, 0, given(3, 3, 0, 3));
     close(s)
 }
 
