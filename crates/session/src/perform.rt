@@ -62,9 +62,7 @@ fn enter(out: &mut [u8; BLOCK], output: Output, state: State, entry: Entry) -> M
     ensures { λ r. ⌜ Valid (r .state) ⌝ }
 {
     match entry {
-        Entry::Task(domain, priority) => {
-            entered(out, output, state.add_task(domain, priority))
-        }
+        Entry::Task(domain, priority) => entered(out, output, state.add_task(domain, priority)),
         Entry::Semaphore(given) => entered(out, output, state.add_semaphore(given)),
         Entry::Queue(given) => entered(out, output, state.add_queue(given)),
         Entry::Region(given) => entered(out, output, state.add_region(given)),
