@@ -11,7 +11,7 @@ ghost use Rattle.kernel.specs.Valid.{Valid};
 ghost use Rattle.kernel.specs.Answers.{summaryOf};
 use crate::state::State;
 use model::Side;
-use model::order;
+use model::attribute;
 use tasks::task::Task;
 
 // How large the table is: the number n of user domains, the protection unit, whether it is closed, and its entries by kind.
@@ -60,9 +60,9 @@ impl State {
         ensures { λ r. ⌜ r ≡ orderOf (viewOf self) side number ⌝ }
     {
         match side {
-            Side::OnSem => order::by_priority(self.semaphore(number).attribute),
+            Side::OnSem => attribute::by_priority(self.semaphore(number).attribute),
             Side::Receiving => false,
-            Side::Sending => order::by_priority(self.queue(number).attribute),
+            Side::Sending => attribute::by_priority(self.queue(number).attribute),
         }
     }
 
