@@ -3,7 +3,7 @@ use Prim.Native.Nat.{ℕ, suc}
 use mathlib.Core.List.{List, []}
 use lib.IntN.{ℤ}
 use Rattle.itron.specs.Codes.{ok}
-use Rattle.model.specs.State.{Queue}
+use Rattle.model.specs.State.{TaskEntry, Queue}
 use Rattle.model.specs.declared.dtq.QueueCall.{QueueCall}
 use Rattle.model.specs.Answers as Model
 use Rattle.model.specs.Answers.{noInfo, say, replyOf, plain}
@@ -14,16 +14,16 @@ use Rattle.model.specs.declared.check.Check.{Check}
 use Rattle.model.specs.declared.check.Check.the-variants.{Refused, Admitted}
 use Rattle.tasks.specs.declared.state.Tasks.{Tasks}
 use Rattle.tasks.specs.declared.wait.Ended.{Ended}
-use Rattle.tasks.specs.View.{domainsOf, waitsOf}
+use Rattle.tasks.specs.View.{entriesOf, waitsOf}
 use Rattle.tasks.specs.Form.{tasksAs}
 use Rattle.dataqueue.specs.declared.call.Effect.{Effect}
 use Rattle.dataqueue.specs.declared.state.Queues.{Queues}
 use Rattle.dataqueue.specs.View.{queuesOf}
 use Rattle.dataqueue.specs.Form.{queuesAs}
 
--- the model's effect, with the tasks, which have these domains, and the queues in their form
-abbrev pub effectAs : List ℤ → Model.Effect Queue → Effect
-effectAs ds e = record { reply = replyOf (e .answer); info = e .answer .info; tasks = tasksAs ds (e .waits); queues = queuesAs (e .records) }
+-- the model's effect, with the tasks, which have these entries, and the queues in their form
+abbrev pub effectAs : List TaskEntry → Model.Effect Queue → Effect
+effectAs es e = record { reply = replyOf (e .answer); info = e .answer .info; tasks = tasksAs es (e .waits); queues = queuesAs (e .records) }
 
 -- a refusal, with everything as it was
 abbrev pub refusedWith : Tasks → Queues → ℤ → Effect
@@ -40,4 +40,4 @@ endedWith e qs = record { reply = e .reply; info = noInfo; tasks = e .tasks; que
 -- what the checks refuse, or what the act does
 abbrev pub acted : Tasks → Queues → Act QueueCall → Check → Effect
 acted ts qs a (Refused code) = refusedWith ts qs code
-acted ts qs a (Admitted task object) = effectAs (domainsOf ts) (actOn room (waitsOf ts) (queuesOf qs) (suc task) (suc object) a)
+acted ts qs a (Admitted task object) = effectAs (entriesOf ts) (actOn room (entriesOf ts) (waitsOf ts) (queuesOf qs) (suc task) (suc object) a)

@@ -5,7 +5,7 @@ ghost use lib.ListN.{length};
 ghost use Rattle.model.specs.Acts.{operationOf};
 ghost use Rattle.model.specs.Answers as Model;
 ghost use Rattle.model.specs.Queues.{actOf, operation, does, onSend, onReceive, onForce, told};
-ghost use Rattle.tasks.specs.View.{domainsOf, waitsOf};
+ghost use Rattle.tasks.specs.View.{entriesOf, waitsOf};
 ghost use Rattle.tasks.specs.Held as TasksHeld;
 ghost use Rattle.tasks.specs.Held.{Passed};
 ghost use Rattle.dataqueue.specs.View.{queuesOf};
@@ -19,6 +19,7 @@ use model::Info;
 use model::Patience;
 use model::Reply;
 use model::Side;
+use model::attribute;
 use model::check::Check;
 use model::dtq::QueueCall;
 use model::dtq::QueueRequest;
@@ -82,10 +83,10 @@ pub(crate) fn send(
     patience: Patience,
     word: u32,
 ) -> Effect
-    requires { ⌜ TasksHeld.Held tasks × Held queues × TasksHeld.Free (domainsOf tasks) (waitsOf tasks) task × (object < length (queuesOf queues)) ⌝ }
-    ensures { λ r. ⌜ r ≡ effectAs (domainsOf tasks) (onSend (waitsOf tasks) (queuesOf queues) (suc task) (suc object) word patience) ⌝ }
+    requires { ⌜ TasksHeld.Held tasks × Held queues × TasksHeld.Free (entriesOf tasks) (waitsOf tasks) task × (object < length (queuesOf queues)) ⌝ }
+    ensures { λ r. ⌜ r ≡ effectAs (entriesOf tasks) (onSend (waitsOf tasks) (queuesOf queues) (suc task) (suc object) word patience) ⌝ }
 {
-    match tasks.first(Side::Receiving, object) {
+    match tasks.first(Side::Receiving, object, false) {
         First::Waiter(receiver, _) => ended(tasks.wake(receiver, 0, word), queues),
         First::Nobody => {
             if queues.has_room(object) {
@@ -108,11 +109,12 @@ pub(crate) fn receive(
     object: usize,
     patience: Patience,
 ) -> Effect
-    requires { ⌜ TasksHeld.Held tasks × Held queues × TasksHeld.Free (domainsOf tasks) (waitsOf tasks) task × (object < length (queuesOf queues)) ⌝ }
-    ensures { λ r. ⌜ r ≡ effectAs (domainsOf tasks) (onReceive (waitsOf tasks) (queuesOf queues) (suc task) (suc object) patience) ⌝ }
+    requires { ⌜ TasksHeld.Held tasks × Held queues × TasksHeld.Free (entriesOf tasks) (waitsOf tasks) task × (object < length (queuesOf queues)) ⌝ }
+    ensures { λ r. ⌜ r ≡ effectAs (entriesOf tasks) (onReceive (entriesOf tasks) (waitsOf tasks) (queuesOf queues) (suc task) (suc object) patience) ⌝ }
 {
-    let sender = tasks.first(Side::Sending, object);
     let queue = queues.records[object];
+    let by_priority = attribute::by_priority(queue.attribute);
+    let sender = tasks.first(Side::Sending, object, by_priority);
     if queue.len == 0 {
         return match sender {
             First::Waiter(from, sent) => ended(tasks.wake(from, sent, 0), queues),
@@ -133,13 +135,13 @@ pub(crate) fn receive(
 // Forced send. It takes no task: it never waits.
 pub(crate) fn force(tasks: Tasks, queues: Queues, object: usize, word: u32) -> Effect
     requires { ⌜ TasksHeld.Held tasks × Held queues × (object < length (queuesOf queues)) ⌝ }
-    ensures { λ r. ⌜ r ≡ effectAs (domainsOf tasks) (onForce (waitsOf tasks) (queuesOf queues) (suc object) word) ⌝ }
+    ensures { λ r. ⌜ r ≡ effectAs (entriesOf tasks) (onForce (waitsOf tasks) (queuesOf queues) (suc object) word) ⌝ }
 {
     let queue = queues.records[object];
     if queue.capacity == 0 {
         return refused(tasks, queues, E_ILUSE);
     }
-    match tasks.first(Side::Receiving, object) {
+    match tasks.first(Side::Receiving, object, false) {
         First::Waiter(taker, _) => ended(tasks.wake(taker, 0, word), queues),
         First::Nobody => {
             if queue.len < queue.capacity {
@@ -158,8 +160,8 @@ pub(crate) fn own(
     object: usize,
     call: QueueCall,
 ) -> Effect
-    requires { ⌜ TasksHeld.Held tasks × Held queues × TasksHeld.Free (domainsOf tasks) (waitsOf tasks) task × (object < length (queuesOf queues)) ⌝ }
-    ensures { λ r. ⌜ r ≡ effectAs (domainsOf tasks) (does (waitsOf tasks) (queuesOf queues) (suc task) (suc object) call) ⌝ }
+    requires { ⌜ TasksHeld.Held tasks × Held queues × TasksHeld.Free (entriesOf tasks) (waitsOf tasks) task × (object < length (queuesOf queues)) ⌝ }
+    ensures { λ r. ⌜ r ≡ effectAs (entriesOf tasks) (does (entriesOf tasks) (waitsOf tasks) (queuesOf queues) (suc task) (suc object) call) ⌝ }
 {
     match call {
         QueueCall::Send(patience, word) => send(tasks, queues, task, object, patience, word),
@@ -171,11 +173,12 @@ pub(crate) fn own(
 // Refer.
 pub(crate) fn refer(tasks: Tasks, queues: Queues, object: usize) -> Effect
     requires { ⌜ TasksHeld.Held tasks × Held queues × (object < length (queuesOf queues)) ⌝ }
-    ensures { λ r. ⌜ r ≡ effectAs (domainsOf tasks) (Model.effect (Model.tells (told (waitsOf tasks) (queuesOf queues) (suc object))) (waitsOf tasks) (queuesOf queues)) ⌝ }
+    ensures { λ r. ⌜ r ≡ effectAs (entriesOf tasks) (Model.effect (Model.tells (told (entriesOf tasks) (waitsOf tasks) (queuesOf queues) (suc object))) (waitsOf tasks) (queuesOf queues)) ⌝ }
 {
-    let first = tasks.first_number(Side::Sending, object);
-    let second = tasks.first_number(Side::Receiving, object);
     let queue = queues.records[object];
+    let by_priority = attribute::by_priority(queue.attribute);
+    let first = tasks.first_number(Side::Sending, object, by_priority);
+    let second = tasks.first_number(Side::Receiving, object, false);
     let amount = queue.len as u32;
     let vector = queue.vector;
     Effect {

@@ -21,6 +21,7 @@ use itron::code::E_PAR;
 use itron::code::E_RSATR;
 use itron::limit::MAX_CAPACITY;
 use itron::limit::MAX_WORDS;
+use model::attribute;
 
 // An entry as given.
 pub struct QueueEntry {
@@ -50,7 +51,7 @@ impl Queues {
         requires { ⌜ Held self ⌝ }
         ensures { λ r. ⌜ r ≡ resultOf (entryCheck (queuesOf self) attribute capacity) ⌝ }
     {
-        if attribute != 0 {
+        if !attribute::is_order(attribute) {
             return E_RSATR;
         }
         if MAX_CAPACITY < capacity {

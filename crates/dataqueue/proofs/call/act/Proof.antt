@@ -6,7 +6,7 @@ use lib.ListN.{length}
 use mir.Syntax.{w32}
 use mir.Val.{toZ, ofZ}
 use Rattle.model.specs.Queues.{actOf}
-use Rattle.tasks.specs.View.{domainsOf, waitsOf}
+use Rattle.tasks.specs.View.{entriesOf, waitsOf}
 use Rattle.tasks.specs.Held.{Free}
 use Rattle.tasks.proofs.Rooms.{gives-by}
 use Rattle.dataqueue.specs.View.{queuesOf}
@@ -29,7 +29,7 @@ enum-known-request : tie.Need-enum-known-request
 enum-known-request c = search needs
 
 -- the caller and the object of a call that is admitted
-free : (c : tie.After-check2) → let a = c .before .before .args in Free (domainsOf (a .tasks)) (waitsOf (a .tasks)) (c .check2 .given .0 .0)
+free : (c : tie.After-check2) → let a = c .before .before .args in Free (entriesOf (a .tasks)) (waitsOf (a .tasks)) (c .check2 .given .0 .0)
 free c = c .before .before .pre .2 .free _ _ (c .check2 .given .1)
 
 there : (c : tie.After-check2) → c .check2 .given .0 .1 .0 < length (queuesOf (c .before .before .args .queues))

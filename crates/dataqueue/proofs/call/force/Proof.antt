@@ -3,6 +3,7 @@ use borrow.Author.Needs.{needs}
 use Prim.Native.Nat.{suc, _<_, _≤_}
 use native.Mathlib.Omega.{arith}
 use mathlib.Core.Path.{_≡_, sym, subst, ap, _∙_}
+use mathlib.Core.Bool.{false}
 use mathlib.Core.List.{[]}
 use mathlib.Core.Logic.{_≢_}
 use lib.ListN.{length}
@@ -48,11 +49,11 @@ enum-known-taker : tie.Need-enum-known-taker
 enum-known-taker c = search needs
 
 -- who is first to receive
-first-at : (c : tie.After-taker) → let b = c .before .before .before .before .before .before in Waits (b .args .tasks) (place Receiving (suc (b .args .object))) (c .taker .given .0 .0) (c .taker .given .0 .1 .0)
+first-at : (c : tie.After-taker) → let b = c .before .before .before .before .before .before in Waits (b .args .tasks) false (place Receiving (suc (b .args .object))) (c .taker .given .0 .0) (c .taker .given .0 .1 .0)
 first-at c =
     let f = c .before .before in
     let b = f .before .before .before .before in
-    waits (b .pre .0) (place Receiving (suc (b .args .object))) _ _ (sym (f .first .ensures) ∙ c .taker .given .1)
+    waits (b .pre .0) false (place Receiving (suc (b .args .object))) _ _ (sym (f .first .ensures) ∙ c .taker .given .1)
 
 wake-requires : tie.Need-wake-requires
 wake-requires c κs = (c .before .before .before .before .before .before .before .pre .0, first-at (c .before) .low)

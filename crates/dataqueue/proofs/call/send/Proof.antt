@@ -2,6 +2,7 @@
 use borrow.Author.Needs.{needs}
 use Prim.Native.Nat.{suc}
 use mathlib.Core.Path.{_≡_, sym, _∙_}
+use mathlib.Core.Bool.{false}
 use mathlib.Core.List.{[]}
 use lib.ListN.{length}
 use borrow.Author.Tests.{ltb-true}
@@ -23,11 +24,11 @@ enum-known-receiver : tie.Need-enum-known-receiver
 enum-known-receiver c = search needs
 
 -- who is first to receive
-first-at : (c : tie.After-receiver) → let b = c .before .before .before in Waits (b .args .tasks) (place Receiving (suc (b .args .object))) (c .receiver .given .0 .0) (c .receiver .given .0 .1 .0)
+first-at : (c : tie.After-receiver) → let b = c .before .before .before in Waits (b .args .tasks) false (place Receiving (suc (b .args .object))) (c .receiver .given .0 .0) (c .receiver .given .0 .1 .0)
 first-at c =
     let f = c .before .before in
     let b = f .before in
-    waits (b .pre .0) (place Receiving (suc (b .args .object))) _ _ (sym (f .first .ensures) ∙ c .receiver .given .1)
+    waits (b .pre .0) false (place Receiving (suc (b .args .object))) _ _ (sym (f .first .ensures) ∙ c .receiver .given .1)
 
 wake-requires : tie.Need-wake-requires
 wake-requires c κs = (c .before .before .before .before .pre .0, first-at (c .before) .low)
