@@ -28,6 +28,9 @@ use tasks::task::Wait;
 use tasks::wait::Ended;
 use tasks::wait::First;
 
+// Receivers stand as they came, whatever the attribute says.
+pub(crate) const RECEIVERS_BY_PRIORITY: bool = false;
+
 // What a call gives: the reply, what a refer tells, and the tasks and the queues after it.
 pub struct Effect {
     pub reply: Reply,
@@ -86,7 +89,7 @@ pub(crate) fn send(
     requires { ⌜ TasksHeld.Held tasks × Held queues × TasksHeld.Free (entriesOf tasks) (waitsOf tasks) task × (object < length (queuesOf queues)) ⌝ }
     ensures { λ r. ⌜ r ≡ effectAs (entriesOf tasks) (onSend (waitsOf tasks) (queuesOf queues) (suc task) (suc object) word patience) ⌝ }
 {
-    match tasks.first(Side::Receiving, object, false) {
+    match tasks.first(Side::Receiving, object, RECEIVERS_BY_PRIORITY) {
         First::Waiter(receiver, _) => ended(tasks.wake(receiver, 0, word), queues),
         First::Nobody => {
             if queues.has_room(object) {
@@ -141,7 +144,7 @@ pub(crate) fn force(tasks: Tasks, queues: Queues, object: usize, word: u32) -> E
     if queue.capacity == 0 {
         return refused(tasks, queues, E_ILUSE);
     }
-    match tasks.first(Side::Receiving, object, false) {
+    match tasks.first(Side::Receiving, object, RECEIVERS_BY_PRIORITY) {
         First::Waiter(taker, _) => ended(tasks.wake(taker, 0, word), queues),
         First::Nobody => {
             if queue.len < queue.capacity {
@@ -178,7 +181,7 @@ pub(crate) fn refer(tasks: Tasks, queues: Queues, object: usize) -> Effect
     let queue = queues.records[object];
     let by_priority = attribute::by_priority(queue.attribute);
     let first = tasks.first_number(Side::Sending, object, by_priority);
-    let second = tasks.first_number(Side::Receiving, object, false);
+    let second = tasks.first_number(Side::Receiving, object, RECEIVERS_BY_PRIORITY);
     let amount = queue.len as u32;
     let vector = queue.vector;
     Effect {
