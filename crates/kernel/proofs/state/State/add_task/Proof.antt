@@ -45,7 +45,7 @@ add-requires c κs =
     let a = b .args in
     let m = viewOf (a .self) in
     let r = task-room m (a .domain) (a .priority) (passes (c .before)) in
-    (tasks-held (b .pre), r .0, b .pre .sound .quiet (r .1), task-fits m (b .pre .sound .entries .domains) (a .domain) (a .priority) (passes (c .before)))
+    (tasks-held (b .pre), r .0, b .pre .sound .quiet (r .1), rw (toZ-ofZ (b .fits .domain)) (task-fits m (b .pre .sound .entries .domains) (a .domain) (a .priority) (passes (c .before))))
 
 enter-requires-2 : tie.Need-enter-requires-2
 enter-requires-2 c κs = search needs

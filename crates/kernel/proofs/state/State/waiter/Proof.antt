@@ -24,13 +24,13 @@ by-priority-requires : tie.Need-by-priority-requires
 by-priority-requires c κs = search needs
 
 waiter-requires : tie.Need-waiter-requires
-waiter-requires c κs = tasks-held (c .before .before .pre)
+waiter-requires c κs = tasks-held (c .before .before .before .pre)
 
 returns-2 : tie.Need-returns-2
 returns-2 c =
-    let b = c .before .before .before in
+    let b = c .before .before .before .before in
     let a = b .args in
-    let z = c .before .before .if1 .left in
+    let z = c .before .before .before .if1 .left in
     let e : suc (a .number - 1) ≡ a .number = omega arith in
     let m = viewOf (a .self) in
     let o = c .before .by-priority .ensures in
