@@ -2,20 +2,21 @@
 use Prim.Native.Nat.{ℕ, zero, suc, _+_, _<_}
 use native.Mathlib.Omega.{arith}
 use mathlib.Core.Path.{_≡_, refl, sym, ap, _∙_, subst₂}
-use mathlib.Core.List.{List, map}
+use mathlib.Core.List.{List, [], _∷_, map}
 use lib.ListN.{length, getD, take, length-map}
 use Rattle.arrays.specs.Pad.{pad}
 use Rattle.arrays.proofs.Pads.{pad-get, pad-take, pad-length}
 use Rattle.itron.specs.Limits.{maxTasks}
-use Rattle.model.specs.Lists.{at}
+use Rattle.model.specs.Lists.{at, All}
 use Rattle.model.specs.State.{TaskEntry, Waiter, noTask as noEntry}
-use Rattle.model.specs.Conditions.{WaitsFit}
+use Rattle.model.specs.Conditions.{WaitsFit, Known}
 use Rattle.model.proofs.Fits.{few}
 use Rattle.tasks.specs.declared.task.Task.{Task}
 use Rattle.tasks.specs.declared.state.Tasks.{Tasks}
 use Rattle.tasks.specs.View.{noTask, waiterAt, entryOf, entriesOf, waitsOf}
 use Rattle.tasks.specs.Form.{taskAs, tasksAs, tasksFrom, waitFor, indexIn}
 use Rattle.tasks.specs.Held.{Held}
+use Rattle.tasks.proofs.Waits.{number-back}
 use Rattle.tasks.proofs.Entries.{entries-length, entries-seen, entries-get, entries-priority, waiters-back}
 
 -- the entry of a task in the form
@@ -51,6 +52,11 @@ held-as es ws f =
       room = let a = few f in let b = f .tasks in omega arith;
     }
 
+indexes-low : (n : ℕ) (l : List Waiter) → All (Known n) l → (i : ℕ) → i < length l → getD (map indexIn l) i 0 < n
+indexes-low n [] k i h = absurd (omega arith)
+indexes-low n (x ∷ l) k zero h = let b = number-back (x .task) (k .0 .0) in let m = k .0 .1 in omega arith
+indexes-low n (x ∷ l) k (suc i) h = indexes-low n l (k .1) i (omega arith)
+
 -- ---- of any tasks that are held
 module _ {t : Tasks} (h : Held t) where
   pub count-seen : t .count ≡ length (entriesOf t)
@@ -72,6 +78,14 @@ module _ {t : Tasks} (h : Held t) where
   priority-seen (suc i) =
       ap (λ (x : Tasks). getD (x .entries) i noTask .priority) (h .form)
       ∙ ap (λ (x : Task). x .priority) (pad-get noTask maxTasks (tasksFrom 0 (entriesOf t) (waitsOf t)) i) ∙ entries-priority 0 (entriesOf t) (waitsOf t) i
+
+  -- who waits is a task
+  pub order-low : (i : ℕ) → i < t .waiting → getD (t .order) i 0 < length (entriesOf t)
+  unfolding tasksAs
+  order-low i l =
+      let e = ap (λ (x : Tasks). getD (x .order) i 0) (h .form) ∙ pad-get 0 maxTasks (map indexIn (waitsOf t)) i in
+      let k = indexes-low (length (entriesOf t)) (waitsOf t) (h .fit .known) i (let w = waiting-seen in omega arith) in
+      omega arith
 
   pub entries-long : length (t .entries) ≡ maxTasks
   unfolding tasksAs

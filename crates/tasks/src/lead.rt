@@ -1,10 +1,6 @@
 // The most urgent of those who wait at a place, found along the order in which they began to.
 ghost use mathlib.Core.Path.{_≡_};
-ghost use lib.ListN.{getD};
-ghost use Rattle.tasks.specs.View.{noTask};
 ghost use Rattle.tasks.specs.Leads.{leadOf};
-use crate::task::Task;
-use itron::limit::MAX_TASKS;
 
 // The number of the most urgent so far with its priority; 0 and 0 before the first.
 pub(crate) struct Lead {
@@ -25,15 +21,4 @@ impl Lead {
         }
         self
     }
-}
-
-// The priority of the task at an index; 0 past the end.
-pub(crate) fn priority_of(entries: [Task; MAX_TASKS], index: usize) -> u8
-    ensures { λ r. ⌜ r ≡ getD entries index noTask .priority ⌝ }
-{
-    if MAX_TASKS <= index {
-        return 0;
-    }
-    let task = entries[index];
-    task.priority
 }

@@ -9,7 +9,6 @@ ghost use Rattle.model.specs.Waits.{waitersIn, standing, firstTask, orWaits};
 ghost use Rattle.tasks.specs.View.{entriesOf, waitsOf, waiterOf, noTask};
 ghost use Rattle.tasks.specs.Held.{Held, Free, isReady};
 ghost use Rattle.tasks.specs.Ends.{firstOf, taskIn, callerOf, endedOf, wokenOf};
-use crate::lead;
 use crate::lead::Lead;
 use crate::state::Tasks;
 use crate::task::Task;
@@ -126,9 +125,13 @@ impl Tasks {
         requires { ⌜ Held self ⌝ }
         ensures { λ r. ⌜ r ≡ firstTask (standing true (entriesOf self) (waitersIn (waitsOf self) (place side (suc object)))) ⌝ }
     {
+        let waiting = self.waiting;
+        // Measured: spares the copies below where nobody waits.
+        if waiting == 0 {
+            return 0;
+        }
         let entries = self.entries;
         let order = self.order;
-        let waiting = self.waiting;
         let mut lead = Lead {
             number: 0,
             priority: 0,
@@ -136,10 +139,12 @@ impl Tasks {
         let mut i = 0;
         while i < waiting {
             let task = order[i] as usize;
-            let wait = wait_of(entries, task);
+            // Not by `wait_of`: measured, that copies all tasks for each one passed.
+            let entry = entries[task];
+            let wait = entry.wait;
             if waits_at(wait, side, object) {
                 let number = task + 1;
-                lead = lead.against(number, lead::priority_of(entries, task));
+                lead = lead.against(number, entry.priority);
             }
             i += 1;
         }

@@ -1,11 +1,11 @@
 -- `Tasks::most_urgent` meets its contract. The loop's invariant: the first by rank is the first of who leads and those who are left. Assumes nothing.
 use borrow.Author.Needs.{needs}
-use Prim.Native.Nat.{ℕ, suc, _+_, _≤_, _-_}
+use Prim.Native.Nat.{ℕ, suc, _+_, _≤_, _<_, _-_}
 use native.Mathlib.Omega.{arith}
 use native.Mathlib.Numerals.{add-one}
 use mathlib.Core.Path.{_≡_, refl, sym, ap, _∙_}
 use mathlib.Core.Logic.{⊎-elim}
-use mathlib.Core.List.{List}
+use mathlib.Core.List.{List, []}
 use lib.ListN.{length, getD}
 use Rattle.itron.specs.Limits.{maxTasks}
 use Rattle.model.specs.Lists.{at}
@@ -14,8 +14,8 @@ use Rattle.tasks.specs.declared.task.Task.{Task}
 use Rattle.tasks.specs.declared.lead.Lead.{Lead}
 use Rattle.tasks.specs.View.{noTask, waitsOf}
 use Rattle.tasks.specs.Leads.{leadOf}
-use Rattle.tasks.proofs.Back.{entries-long}
-use Rattle.tasks.proofs.Waiters.{numbersFrom, none-left, pass, here, stands-low}
+use Rattle.tasks.proofs.Back.{order-low}
+use Rattle.tasks.proofs.Waiters.{numbersFrom, none-left, pass, here}
 use Rattle.tasks.proofs.Leads.{leads, led, firstBy, lead-own, lead-step, lead-last}
 use Rattle.tasks.proofs.Firsts.{first-ranked}
 use Rattle.tasks.proofs.state.Tasks.most_urgent.Statement.{statement}
@@ -25,16 +25,26 @@ abbrev rankIn : List Task → ℕ → ℕ
 rankIn ts n = at noTask ts n .priority
 
 abbrev Inv-loop : tie.InvT-loop
-Inv-loop side object entries order waiting lead₀ i₀ lead i =
+Inv-loop side object waiting entries order lead₀ i₀ lead i =
     (i ≤ waiting) × (waiting ≤ maxTasks) × (lead ≡ leads (rankIn entries) (lead .number))
     × (firstBy (rankIn entries) (numbersFrom entries (place side (suc object)) order waiting 0)
     ≡ firstBy (rankIn entries) (led (rankIn entries) (lead .number) (numbersFrom entries (place side (suc object)) order waiting i)))
 
 abbrev μ-loop : tie.MeasureT-loop
-μ-loop side object entries order waiting lead₀ i₀ lead i = waiting - i
+μ-loop side object waiting entries order lead₀ i₀ lead i = waiting - i
+
+-- nobody waits
+returns : tie.Need-returns Inv-loop μ-loop
+unfolding waitsOf
+returns c =
+    let a = c .before .args in
+    let p = place (a .side) (suc (a .object)) in
+    let n = numbersFrom (a .self .entries) p (a .self .order) (a .self .waiting) in
+    let e : n 0 ≡ [] = ap n (sym (c .if1 .taken)) ∙ none-left (a .self .entries) p (a .self .order) (a .self .waiting) in
+    sym (first-ranked (c .before .pre) p ∙ ap (firstBy (rankIn (a .self .entries))) e)
 
 loop-holds : tie.Need-loop-holds Inv-loop μ-loop
-loop-holds c = (omega arith, c .before .before .pre .room, refl, refl)
+loop-holds c = (omega arith, c .before .before .before .pre .room, refl, refl)
 
 array-read-task : tie.Need-array-read-task Inv-loop μ-loop
 array-read-task c = omega arith
@@ -42,23 +52,25 @@ array-read-task c = omega arith
 cast-task : tie.Need-cast-task Inv-loop μ-loop
 cast-task c = search needs
 
-wait-of-requires : tie.Need-wait-of-requires Inv-loop μ-loop
-wait-of-requires c κs = tt
+-- who waits is a task
+low : (c : tie.In-loop Inv-loop μ-loop) → getD (c .before .before .before .before .before .args .self .order) (c .before .loop .i) 0 < maxTasks
+low c =
+    let h = c .before .before .before .before .before .pre in
+    let l = order-low h (c .before .loop .i) (omega arith) in
+    let m = h .fit .tasks in
+    omega arith
+
+mul-entry : tie.Need-mul-entry Inv-loop μ-loop
+mul-entry c = let l = low c in omega arith
+
+array-copy-out-entry : tie.Need-array-copy-out-entry Inv-loop μ-loop
+array-copy-out-entry c = let l = low c in omega arith
 
 waits-at-requires : tie.Need-waits-at-requires Inv-loop μ-loop
 waits-at-requires c κs = tt
 
 add-number : tie.Need-add-number Inv-loop μ-loop
-add-number c =
-    let b = c .before .before .before in
-    let s = b .before .before .before .before in
-    let a = s .args in
-    let l = entries-long (s .pre) in
-    let h = stands-low (a .self .entries) (a .side) (a .object) (getD (a .self .order) (b .before .loop .i) 0) (cc) in
-    omega arith
-
-priority-of-requires : tie.Need-priority-of-requires Inv-loop μ-loop
-priority-of-requires c κs = tt
+add-number c = let l = low (c .before .before .before) in omega arith
 
 against-requires : tie.Need-against-requires Inv-loop μ-loop
 against-requires c κs = tt
@@ -72,7 +84,7 @@ loop-less c = omega arith
 loop-again : tie.Need-loop-again Inv-loop μ-loop
 loop-again c =
     let s = c .before .before .before .before in
-    let a = s .before .before .before .args in
+    let a = s .before .before .before .before .args in
     let v = s .loop .inv in
     let i = s .loop .i in
     let x = getD (a .self .order) i 0 in
@@ -81,23 +93,23 @@ loop-again c =
     let p = place (a .side) (suc (a .object)) in
     let n = numbersFrom es p (a .self .order) (a .self .waiting) in
     let l : length (a .self .order) ≡ maxTasks = search needs in
-    let m : (c .if1 .lead ≡ leads r (c .if1 .lead .number)) × (firstBy r (led r (s .loop .lead .number) (n i)) ≡ firstBy r (led r (c .if1 .lead .number) (n (i + 1)))) =
+    let m : (c .if2 .lead ≡ leads r (c .if2 .lead .number)) × (firstBy r (led r (s .loop .lead .number) (n i)) ≡ firstBy r (led r (c .if2 .lead .number) (n (i + 1)))) =
     ⊎-elim (λ w.
-    let f = w .3 ∙ w .2 .ensures ∙ (λ j. leadOf (s .loop .lead) (add-one x j) (w .1 .ensures j)) in
+    let f = w .2 ∙ w .1 .ensures ∙ ap (λ (n : ℕ). leadOf (s .loop .lead) n (r (suc x))) (add-one x) in
     let h = here es p (a .self .order) (a .self .waiting) i (omega arith) (omega arith) (cc) in
-    (lead-own r (s .loop .lead) (c .if1 .lead) x (v .2) f, ap (λ (l : List ℕ). firstBy r (led r (s .loop .lead .number) l)) h ∙ lead-step r (s .loop .lead) (c .if1 .lead) x (v .2) f (n (i + 1))))
+    (lead-own r (s .loop .lead) (c .if2 .lead) x (v .2) f, ap (λ (l : List ℕ). firstBy r (led r (s .loop .lead .number) l)) h ∙ lead-step r (s .loop .lead) (c .if2 .lead) x (v .2) f (n (i + 1))))
     (λ w.
     let h = pass es p (a .self .order) (a .self .waiting) i (omega arith) (omega arith) (cc) in
-    let e : s .loop .lead ≡ c .if1 .lead = sym (w .1) in
+    let e : s .loop .lead ≡ c .if2 .lead = sym (w .1) in
     (w .1 ∙ v .2 ∙ ap (λ (y : Lead). leads r (y .number)) e, λ j. firstBy r (led r (e j .number) (h j))))
-    (c .if1 .came) in
+    (c .if2 .came) in
     (omega arith, omega arith, m .0, v .3 ∙ m .1)
 
-returns : tie.Need-returns Inv-loop μ-loop
+returns-2 : tie.Need-returns-2 Inv-loop μ-loop
 unfolding waitsOf
-returns c =
+returns-2 c =
     let b = c .before in
-    let s = b .before .before .before in
+    let s = b .before .before .before .before in
     let a = s .args in
     let r = rankIn (a .self .entries) in
     let p = place (a .side) (suc (a .object)) in
@@ -114,13 +126,14 @@ most-urgent-spec =
     (tie.spec
     Inv-loop
     μ-loop
+    returns
     loop-holds
     array-read-task
-    cast-task wait-of-requires
+    cast-task mul-entry
+    array-copy-out-entry
     waits-at-requires
-    add-number priority-of-requires
-    against-requires
+    add-number against-requires
     add-i
     loop-less
     loop-again
-    returns)
+    returns-2)
