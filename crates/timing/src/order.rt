@@ -30,19 +30,26 @@ pub(crate) fn caller(task: usize) -> i32 {
     task as i32
 }
 
+// One task more, if there is a priority for it.
+pub(crate) fn with_waiter<'a>(s: State, priorities: &'a [u32], i: usize) -> State
+    requires { ⌜ Valid s ⌝ }
+    ensures { λ r. ⌜ Valid r ⌝ }
+{
+    if priorities.len() <= i {
+        return s;
+    }
+    s.add_task(DOMAIN, priorities[i]).state
+}
+
 // Task 1 and one with each of these priorities, as many as there can be, with a semaphore of count 0 and a queue of that order.
 pub(crate) fn table<'a>(attribute: u32, capacity: u32, priorities: &'a [u32]) -> State
     ensures { λ r. ⌜ Valid r ⌝ }
 {
     let mut s = State::fresh(1, REGION_SIZE).state;
     s = s.add_task(DOMAIN, CALLER_PRIORITY).state;
-    let mut count = priorities.len();
-    if MOST_WAITERS < count {
-        count = MOST_WAITERS;
-    }
     let mut i: usize = 0;
-    while i < count {
-        s = s.add_task(DOMAIN, priorities[i]).state;
+    while i < MOST_WAITERS {
+        s = with_waiter(s, priorities, i);
         i += 1;
     }
     s = s.add_semaphore(SemaphoreEntry {
@@ -106,13 +113,13 @@ pub extern "C" fn timing_signal_wait<'a>(
     let mut sum: u32 = 0;
     let mut round: u32 = 0;
     while round < rounds {
+        round += 1;
         let a = s.sig_sem(task, ID);
         s = a.state;
         let released = a.released;
         let number = released.task;
         s = s.wai_sem(caller(number), ID).state;
         sum = with_task(sum, number);
-        round += 1;
     }
     sum
 }
@@ -130,13 +137,14 @@ pub extern "C" fn timing_receive_send<'a>(
     let mut sum: u32 = 0;
     let mut round: u32 = 0;
     while round < rounds {
+        let word = round;
+        round += 1;
         let a = s.prcv_dtq(task, ID);
         s = a.state;
         let released = a.released;
         let number = released.task;
-        s = s.snd_dtq(caller(number), ID, round).state;
+        s = s.snd_dtq(caller(number), ID, word).state;
         sum = with_task(wrapping_add_u32(sum, a.word), number);
-        round += 1;
     }
     sum
 }
