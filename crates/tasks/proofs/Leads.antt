@@ -1,7 +1,8 @@
 -- The first by rank, found along a list: who comes later leads only if it ranks lower. Assumes nothing.
-use Prim.Native.Nat.{ℕ, zero, suc, _≤_, _<_}
+use Prim.Native.Nat.{ℕ, zero, suc, _+_, _≤_, _<_}
 use native.Mathlib.Omega.{arith}
-use mathlib.Core.Path.{_≡_, refl, sym, ap, _∙_}
+use native.Mathlib.Numerals.{add-one}
+use mathlib.Core.Path.{_≡_, refl, sym, ap, _∙_, subst₂}
 use mathlib.Core.Bool.{Bool, true, false, cond}
 use mathlib.Core.List.{List, [], _∷_, map}
 use lib.Dec.{eqb, ltb, leb}
@@ -105,17 +106,31 @@ module _ (rank : ℕ → ℕ) where
       go true = refl
       go false = refl
 
-  -- one more comes: who leads has its rank, and is first of those who are left
-  module _ (a r : Lead) (x : ℕ) (e : a ≡ leads (a .number)) (f : r ≡ leadOf a (suc x) (rank (suc x))) where
-    next : r ≡ leadOf (leads (a .number)) (suc x) (rank (suc x))
-    next = f ∙ ap (λ (y : Lead). leadOf y (suc x) (rank (suc x))) e
+  last : (b : ℕ) → firstBy (led b []) ≡ b
+  last zero = refl
+  last (suc b) = refl
 
-    pub lead-own : r ≡ leads (r .number)
-    lead-own = next ∙ own (a .number) (suc x) ∙ ap (λ (y : Lead). leads (y .number)) (sym next)
+-- along all of them: who leads has its rank, and the first of it and those who are left is the first of all
+pub record Scan (rank : ℕ → ℕ) (all left : List ℕ) (a : Lead) : Type 0 where
+  pub own-rank : a ≡ leads rank (a .number)
+  pub same-first : firstBy rank all ≡ firstBy rank (led rank (a .number) left)
 
-    pub lead-step : (l : List ℕ) → firstBy (led (a .number) (suc x ∷ l)) ≡ firstBy (led (r .number) l)
-    lead-step l = step (a .number) x l ∙ ap (λ (y : Lead). firstBy (led (y .number) l)) (sym next)
+module _ (rank : ℕ → ℕ) (all : List ℕ) where
+  pub scan-start : Scan rank all all (leads rank 0)
+  scan-start = record { own-rank = refl; same-first = refl }
 
-  pub lead-last : (b : ℕ) → firstBy (led b []) ≡ b
-  lead-last zero = refl
-  lead-last (suc b) = refl
+  -- of those who are left the first is looked at, or passed over
+  module _ (m l : List ℕ) (a r : Lead) (v : Scan rank all m a) where
+    pub scan-next : (x : ℕ) → m ≡ suc x ∷ l → r ≡ leadOf a (x + 1) (rank (suc x)) → Scan rank all l r
+    scan-next x h f =
+        let e : r ≡ leadOf (leads rank (a .number)) (suc x) (rank (suc x)) = f ∙ (λ i. leadOf (v .own-rank i) (add-one x i) (rank (suc x))) in
+        record {
+          own-rank = e ∙ own rank (a .number) (suc x) ∙ ap (λ (y : Lead). leads rank (y .number)) (sym e);
+          same-first = v .same-first ∙ ap (λ (k : List ℕ). firstBy rank (led rank (a .number) k)) h ∙ step rank (a .number) x l ∙ ap (λ (y : Lead). firstBy rank (led rank (y .number) l)) (sym e);
+        }
+
+    pub scan-pass : m ≡ l → r ≡ a → Scan rank all l r
+    scan-pass h f = subst₂ (λ (k : List ℕ) (y : Lead). Scan rank all k y) h (sym f) v
+
+  pub scan-end : (l : List ℕ) (a : Lead) → l ≡ [] → Scan rank all l a → firstBy rank all ≡ a .number
+  scan-end l a e v = v .same-first ∙ ap (λ (m : List ℕ). firstBy rank (led rank (a .number) m)) e ∙ last rank (a .number)

@@ -1,9 +1,8 @@
--- `Tasks::most_urgent` meets its contract. The loop's invariant: the first by rank is the first of who leads and those who are left. Assumes nothing.
+-- `Tasks::most_urgent` meets its contract. The loop's invariant: a scan along those at the place has come to the i-th in the order. Assumes nothing.
 use borrow.Author.Needs.{needs}
 use Prim.Native.Nat.{ℕ, suc, _+_, _≤_, _<_, _-_}
 use native.Mathlib.Omega.{arith}
-use native.Mathlib.Numerals.{add-one}
-use mathlib.Core.Path.{_≡_, refl, sym, ap, _∙_}
+use mathlib.Core.Path.{_≡_, sym, ap, _∙_}
 use mathlib.Core.Logic.{⊎-elim}
 use mathlib.Core.List.{List, []}
 use lib.ListN.{length, getD}
@@ -11,12 +10,10 @@ use Rattle.itron.specs.Limits.{maxTasks}
 use Rattle.model.specs.Lists.{at}
 use Rattle.model.specs.State.{place}
 use Rattle.tasks.specs.declared.task.Task.{Task}
-use Rattle.tasks.specs.declared.lead.Lead.{Lead}
 use Rattle.tasks.specs.View.{noTask, waitsOf}
-use Rattle.tasks.specs.Leads.{leadOf}
 use Rattle.tasks.proofs.Back.{order-low}
 use Rattle.tasks.proofs.Waiters.{numbersFrom, none-left, pass, here}
-use Rattle.tasks.proofs.Leads.{leads, led, firstBy, lead-own, lead-step, lead-last}
+use Rattle.tasks.proofs.Leads.{firstBy, Scan, scan-start, scan-next, scan-pass, scan-end}
 use Rattle.tasks.proofs.Firsts.{first-ranked}
 use Rattle.tasks.proofs.state.Tasks.most_urgent.Statement.{statement}
 use Rattle.tasks.proofs.state.Tasks.most_urgent.Tie as tie
@@ -26,9 +23,8 @@ rankIn ts n = at noTask ts n .priority
 
 abbrev Inv-loop : tie.InvT-loop
 Inv-loop side object waiting entries order lead₀ i₀ lead i =
-    (i ≤ waiting) × (waiting ≤ maxTasks) × (lead ≡ leads (rankIn entries) (lead .number))
-    × (firstBy (rankIn entries) (numbersFrom entries (place side (suc object)) order waiting 0)
-    ≡ firstBy (rankIn entries) (led (rankIn entries) (lead .number) (numbersFrom entries (place side (suc object)) order waiting i)))
+    let n = numbersFrom entries (place side (suc object)) order waiting in
+    (i ≤ waiting) × (waiting ≤ maxTasks) × Scan (rankIn entries) (n 0) (n i) lead
 
 abbrev μ-loop : tie.MeasureT-loop
 μ-loop side object waiting entries order lead₀ i₀ lead i = waiting - i
@@ -44,7 +40,7 @@ returns c =
     sym (first-ranked (c .before .pre) p ∙ ap (firstBy (rankIn (a .self .entries))) e)
 
 loop-holds : tie.Need-loop-holds Inv-loop μ-loop
-loop-holds c = (omega arith, c .before .before .before .pre .room, refl, refl)
+loop-holds c = (omega arith, c .before .before .before .pre .room, scan-start _ _)
 
 array-read-task : tie.Need-array-read-task Inv-loop μ-loop
 array-read-task c = omega arith
@@ -85,25 +81,19 @@ loop-again : tie.Need-loop-again Inv-loop μ-loop
 loop-again c =
     let s = c .before .before .before .before in
     let a = s .before .before .before .before .args in
-    let v = s .loop .inv in
-    let i = s .loop .i in
-    let x = getD (a .self .order) i 0 in
     let es = a .self .entries in
     let r = rankIn es in
     let p = place (a .side) (suc (a .object)) in
+    let i = s .loop .i in
     let n = numbersFrom es p (a .self .order) (a .self .waiting) in
-    let l : length (a .self .order) ≡ maxTasks = search needs in
-    let m : (c .if2 .lead ≡ leads r (c .if2 .lead .number)) × (firstBy r (led r (s .loop .lead .number) (n i)) ≡ firstBy r (led r (c .if2 .lead .number) (n (i + 1)))) =
-    ⊎-elim (λ w.
-    let f = w .2 ∙ w .1 .ensures ∙ ap (λ (n : ℕ). leadOf (s .loop .lead) n (r (suc x))) (add-one x) in
-    let h = here es p (a .self .order) (a .self .waiting) i (omega arith) (omega arith) (cc) in
-    (lead-own r (s .loop .lead) (c .if2 .lead) x (v .2) f, ap (λ (l : List ℕ). firstBy r (led r (s .loop .lead .number) l)) h ∙ lead-step r (s .loop .lead) (c .if2 .lead) x (v .2) f (n (i + 1))))
-    (λ w.
-    let h = pass es p (a .self .order) (a .self .waiting) i (omega arith) (omega arith) (cc) in
-    let e : s .loop .lead ≡ c .if2 .lead = sym (w .1) in
-    (w .1 ∙ v .2 ∙ ap (λ (y : Lead). leads r (y .number)) e, λ j. firstBy r (led r (e j .number) (h j))))
-    (c .if2 .came) in
-    (omega arith, omega arith, m .0, v .3 ∙ m .1)
+    let v = s .loop .inv .2 in
+    let l : length (a .self .order) ≡ maxTasks = search needs in (
+      omega arith,
+      omega arith,
+      ⊎-elim (λ w. scan-next r (n 0) (n i) (n (i + 1)) (s .loop .lead) (c .if2 .lead) v (getD (a .self .order) i 0) (here es p (a .self .order) (a .self .waiting) i (omega arith) (omega arith) (cc)) (w .2 ∙ w .1 .ensures))
+          (λ w. scan-pass r (n 0) (n i) (n (i + 1)) (s .loop .lead) (c .if2 .lead) v (pass es p (a .self .order) (a .self .waiting) i (omega arith) (omega arith) (cc)) (w .1))
+          (c .if2 .came),
+    )
 
 returns-2 : tie.Need-returns-2 Inv-loop μ-loop
 unfolding waitsOf
@@ -111,14 +101,10 @@ returns-2 c =
     let b = c .before in
     let s = b .before .before .before .before in
     let a = s .args in
-    let r = rankIn (a .self .entries) in
     let p = place (a .side) (suc (a .object)) in
-    let v = b .loop .inv in
-    let n : b .loop .i ≡ a .self .waiting = omega arith in
-    sym (first-ranked (s .pre) p ∙ v .3
-    ∙ ap (λ (j : ℕ). firstBy r (led r (b .loop .lead .number) (numbersFrom (a .self .entries) p (a .self .order) (a .self .waiting) j))) n
-    ∙ ap (λ (l : List ℕ). firstBy r (led r (b .loop .lead .number) l)) (none-left (a .self .entries) p (a .self .order) (a .self .waiting))
-    ∙ lead-last r (b .loop .lead .number))
+    let n = numbersFrom (a .self .entries) p (a .self .order) (a .self .waiting) in
+    let i : b .loop .i ≡ a .self .waiting = omega arith in
+    sym (first-ranked (s .pre) p ∙ scan-end (rankIn (a .self .entries)) (n 0) (n (b .loop .i)) (b .loop .lead) (ap n i ∙ none-left (a .self .entries) p (a .self .order) (a .self .waiting)) (b .loop .inv .2))
 
 pub most-urgent-spec : {M : Type 1} → statement M
 most-urgent-spec =
