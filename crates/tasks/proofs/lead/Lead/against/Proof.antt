@@ -1,5 +1,4 @@
 -- `Lead::against` meets its contract: the first to come, a more urgent one, any other. Assumes nothing.
-use borrow.Author.Needs.{needs}
 use borrow.Author.Tests.{eq-eqb, ne-eqb, lt-ltb, le-ltb}
 use Rattle.tasks.proofs.lead.Lead.against.Statement.{statement}
 use Rattle.tasks.proofs.lead.Lead.against.Tie as tie

@@ -1,11 +1,7 @@
 -- `Tasks::add` meets its contract. Assumes nothing.
 use borrow.Author.Needs.{needs}
 use native.Mathlib.Omega.{arith}
-use mathlib.Core.Path.{_≡_, _∙_, ap}
-use mir.Syntax.{w8, w32}
-use mir.Val.{toZ, ofZ}
 use mir.Facts.{toZ-ofZ}
-use lib.IntN.{ℤ}
 use Rattle.model.specs.Table.{newTask}
 use Rattle.tasks.proofs.Back.{count-seen}
 use Rattle.tasks.proofs.Changes.{add-link, owner-byte}

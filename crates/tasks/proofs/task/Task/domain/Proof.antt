@@ -1,8 +1,7 @@
 -- `Task::domain` meets its contract. Assumes nothing.
 use borrow.Author.Needs.{needs}
-use mathlib.Core.Path.{_≡_}
-use mir.Syntax.{w8, w32}
-use mir.Val.{SFits, toZ, ofZ}
+use mir.Syntax.{w8}
+use mir.Val.{SFits}
 use mir.Facts.{toZ-ofZ, sfits-widen}
 use Rattle.tasks.proofs.task.Task.domain.Statement.{statement}
 use Rattle.tasks.proofs.task.Task.domain.Tie as tie
