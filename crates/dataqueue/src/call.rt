@@ -1,4 +1,4 @@
-// What can be asked of a data queue, and what that does once its checks are passed (document 01, "Calls on an open gateway"; forced send: request T-05).
+// What can be asked of a data queue, and what that does once its checks are passed (document 01, "Calls on an open gateway"; forced send: request T-05; priority order: request T-10).
 ghost use mathlib.Core.Path.{_≡_};
 ghost use Prim.Native.Nat.{suc, _<_};
 ghost use lib.ListN.{length};

@@ -1,4 +1,4 @@
-// What can be asked of a semaphore, and what that does once its checks are passed (document 01, "Calls on an open gateway").
+// What can be asked of a semaphore, and what that does once its checks are passed (document 01, "Calls on an open gateway"; priority order: request T-10).
 ghost use mathlib.Core.Path.{_≡_};
 ghost use Prim.Native.Nat.{suc, _<_};
 ghost use lib.ListN.{length};
@@ -79,6 +79,7 @@ pub(crate) fn signal(tasks: Tasks, semaphores: Semaphores, object: usize) -> Eff
     requires { ⌜ TasksHeld.Held tasks × Held semaphores × (object < length (semsOf semaphores)) ⌝ }
     ensures { λ r. ⌜ r ≡ effectAs (entriesOf tasks) (onSignal (entriesOf tasks) (waitsOf tasks) (semsOf semaphores) (suc object)) ⌝ }
 {
+    // Measured: by `get` this costs the same, one copy of the semaphores.
     let mut semaphore = semaphores.records[object];
     let by_priority = attribute::by_priority(semaphore.attribute);
     match tasks.first(Side::OnSem, object, by_priority) {
