@@ -20,7 +20,7 @@ use Rattle.model.specs.Queues.{QueueCall, send, receive, forcedSend, que
 use Rattle.model.specs.History.{Made}
 use Rattle.model.specs.Sends.{Sent, sentAs, wordOf, shown, notShown, waitingSends, accepts, enters, handed, findsFull, buffered}
 use Rattle.model.specs.QueueClaims.{Sender, senderOf, senderIn, FreesFirst}
-use Rattle.model.proofs.Lists.{Distinct, cons-ne, no-both, eq-of, eqb-same, eqb-no, and-left, and-right, at-put-same, at-put-keep, keep-comm, keep-within, keep-whole, keep-rest, map-append, map-keep, map-parts, absent-keep, distinct-keep}
+use Rattle.model.proofs.Lists.{Distinct, cons-ne, no-both, eq-of, eqb-same, and-left, and-right, at-put-same, at-put-keep, keep-comm, keep-within, keep-whole, keep-rest, map-append, map-keep, map-parts, absent-keep, distinct-keep}
 use Rattle.model.proofs.Order.{standing-none, standing-line, standing-least, standing-distinct}
 use Rattle.model.proofs.Rooms.{ok-same, accepted-same}
 use Rattle.model.proofs.Queues.{QueueOk, viewIn, cover, empty, unheld}

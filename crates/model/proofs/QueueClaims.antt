@@ -17,7 +17,7 @@ use Rattle.model.specs.State.{Vector, Place, Fixed, Queue, receiving, se
 use Rattle.model.specs.Answers.{Effect, Released, Out, out, say, whenOk, whenWaiting, whenAccepted}
 use Rattle.model.specs.Waits.{standsAt, isOther, absent, join, waitersAt, byPriority, receivers, senders}
 use Rattle.model.specs.Acts.{Act, own, refer, setVector, ofOwn}
-use Rattle.model.specs.Rooms.{check, actOn, onRecords, Asks, onObject}
+use Rattle.model.specs.Rooms.{check, actOn, Asks, onObject}
 use Rattle.model.specs.Queues as Queues
 use Rattle.model.specs.Queues.{QueueCall, send, receive, forcedSend, setBuffer, room}
 use Rattle.model.specs.Sends.{Sent, sendIn, sendOf, wordOf, notShown, waitingSends, buffered}

@@ -15,7 +15,7 @@ pub use Rattle.model.specs.Conditions.{QView, qview, qviewOf, QueueOk}
 use Rattle.model.specs.Lists.{All}
 use Rattle.model.specs.State.{Vector, TaskEntry, Queue, Waiter, State, Place, Side, onSem, receiving, sending, place, waiter, noQueue, zeroVector}
 use Rattle.model.specs.Answers.{Effect, effect, say}
-use Rattle.model.specs.Waits.{Patience, polling, forever, waitersIn, byPriority, orderOf, standing, leave, join, refusal, wakes, gives}
+use Rattle.model.specs.Waits.{Patience, polling, forever, waitersIn, byPriority, orderOf, leave, join, refusal, wakes, gives}
 use Rattle.model.specs.Acts.{Act, own, refer, setVector, operationOf}
 use Rattle.model.specs.Rooms.{actOn}
 use Rattle.model.specs.Queues.{QueueCall, send, receive, forcedSend, operation, queueIn, setBuffer, hasRoom, sendersOf, begins, serves, sendBy, receiveBy, forceBy, does, room}

@@ -5,7 +5,7 @@ use mathlib.Core.Path.{_≡_, refl, sym, ap, _∙_, subst₂}
 use mathlib.Core.List.{List, [], _∷_, map}
 use lib.ListN.{length, getD, take, length-map}
 use Rattle.arrays.specs.Pad.{pad}
-use Rattle.arrays.proofs.Pads.{pad-get, pad-take, pad-length}
+use Rattle.arrays.proofs.Pads.{pad-get, pad-take}
 use Rattle.itron.specs.Limits.{maxTasks}
 use Rattle.model.specs.Lists.{at, All}
 use Rattle.model.specs.State.{TaskEntry, Waiter, noTask as noEntry}
@@ -86,9 +86,3 @@ module _ {t : Tasks} (h : Held t) where
       let e = ap (λ (x : Tasks). getD (x .order) i 0) (h .form) ∙ pad-get 0 maxTasks (map indexIn (waitsOf t)) i in
       let k = indexes-low (length (entriesOf t)) (waitsOf t) (h .fit .known) i (let w = waiting-seen in omega arith) in
       omega arith
-
-  pub entries-long : length (t .entries) ≡ maxTasks
-  unfolding tasksAs
-  entries-long =
-      ap (λ (x : Tasks). length (x .entries)) (h .form)
-      ∙ pad-length noTask maxTasks (tasksFrom 0 (entriesOf t) (waitsOf t)) (let n = entries-length 0 (entriesOf t) (waitsOf t) in let l = h .fit .tasks in omega arith)

@@ -11,9 +11,6 @@ use lib.Seq.{drop-cons, getD-take, length-take-le}
 use Rattle.model.specs.Lists.{keep}
 use Rattle.model.specs.State.{Place, place, samePlace}
 use Rattle.model.specs.Waits.{standsAt}
-use Rattle.model.specs.declared.Side.{Side}
-use Rattle.model.specs.declared.Side.the-variants.{OnSem as onSem, Receiving as receiving, Sending as sending}
-use Rattle.model.proofs.Lists.{no-both, eqb-no}
 use Rattle.tasks.specs.declared.task.Task.{Task}
 use Rattle.tasks.specs.View.{noTask, waiterOf, waiterAt}
 use Rattle.tasks.specs.Ends.{taskIn}
@@ -63,14 +60,3 @@ module _ (ts : List Task) (p : Place) where
 
       pub count-off : (k : ℕ) → k ≢ 0 → getD (numbersFrom o w i) k 0 ≡ getD (numbersFrom o w (i + 1)) (k - 1) 0
       count-off k z = let n : k ≡ suc (k - 1) = omega arith in λ j. getD (here j) (n j) 0
-
--- only a task in the array stands anywhere
-pub stands-low : (ts : List Task) (d : Side) (n i : ℕ) → standsIn ts (place d (suc n)) i ≡ true → i < length ts
-stands-low [] d n i e = go d e
-  where
-    go : (d : Side) → standsIn [] (place d (suc n)) i ≡ true → i < 0
-    go onSem e = absurd (no-both e (eqb-no (suc n) 0 (λ q. omega arith)))
-    go receiving e = absurd (no-both e refl)
-    go sending e = absurd (no-both e refl)
-stands-low (x ∷ ts) d n zero e = omega arith
-stands-low (x ∷ ts) d n (suc i) e = let h = stands-low ts d n i e in omega arith

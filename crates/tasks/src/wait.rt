@@ -101,14 +101,20 @@ impl Tasks {
         requires { ⌜ Held self ⌝ }
         ensures { λ r. ⌜ r ≡ getD (map taskIn (waitersIn (waitsOf self) (place side (suc object)))) k 0 ⌝ }
     {
+        let waiting = self.waiting;
+        // Measured: spares the copies below where nobody waits.
+        if waiting == 0 {
+            return 0;
+        }
         let entries = self.entries;
         let order = self.order;
-        let waiting = self.waiting;
         let mut ahead = k;
         let mut i = 0;
         while i < waiting {
             let task = order[i] as usize;
-            let wait = wait_of(entries, task);
+            // Not by `wait_of`: measured, that copies all tasks for each one passed.
+            let entry = entries[task];
+            let wait = entry.wait;
             if waits_at(wait, side, object) {
                 if ahead == 0 {
                     return task + 1;
@@ -126,7 +132,7 @@ impl Tasks {
         ensures { λ r. ⌜ r ≡ firstTask (standing true (entriesOf self) (waitersIn (waitsOf self) (place side (suc object)))) ⌝ }
     {
         let waiting = self.waiting;
-        // Measured: spares the copies below where nobody waits.
+        // As in `arrived`.
         if waiting == 0 {
             return 0;
         }
@@ -139,7 +145,6 @@ impl Tasks {
         let mut i = 0;
         while i < waiting {
             let task = order[i] as usize;
-            // Not by `wait_of`: measured, that copies all tasks for each one passed.
             let entry = entries[task];
             let wait = entry.wait;
             if waits_at(wait, side, object) {

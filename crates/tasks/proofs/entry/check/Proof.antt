@@ -1,6 +1,6 @@
 -- `entry::check` meets its contract. Assumes nothing.
 use mathlib.Core.Path.{sym}
-use mathlib.Core.Bool.{Bool, not, _&&_}
+use mathlib.Core.Bool.{not, _&&_}
 use mathlib.Core.Option.{none}
 use lib.Dec.{leb}
 use borrow.Author.Tests.{lt-leb, le-leb}

@@ -1,6 +1,6 @@
 -- `State::by_priority` meets its contract. Assumes nothing.
 use borrow.Author.Needs.{needs}
-use mathlib.Core.Path.{_≡_, ap, _∙_}
+use mathlib.Core.Path.{ap, _∙_}
 use Rattle.model.specs.Waits.{byPriority}
 use Rattle.model.specs.declared.sem.Semaphore.{Semaphore}
 use Rattle.dataqueue.specs.declared.state.QueueInfo.{QueueInfo}

@@ -1,12 +1,12 @@
 -- `State::waiter` meets its contract. Assumes nothing.
 use borrow.Author.Needs.{needs}
-use Prim.Native.Nat.{ℕ, suc, _-_}
+use Prim.Native.Nat.{suc, _-_}
 use native.Mathlib.Omega.{arith}
-use mathlib.Core.Path.{_≡_, ap, _∙_}
+use mathlib.Core.Path.{_≡_, _∙_}
 use mathlib.Core.List.{map}
 use lib.ListN.{getD}
 use Rattle.model.specs.State.{place}
-use Rattle.model.specs.Waits.{standing, waitersIn, orderOf}
+use Rattle.model.specs.Waits.{standing, waitersIn}
 use Rattle.tasks.specs.Ends.{taskIn}
 use Rattle.kernel.specs.View.{viewOf}
 use Rattle.kernel.proofs.Back.{tasks-held}
