@@ -27,7 +27,7 @@ use Rattle.model.proofs.Lists.{eq-of, eqb-same, eqb-no}
 use Rattle.model.proofs.Places.{all-each}
 
 -- ---- a claim about every element and what was before it holds of one, wherever it stands
-each-at : {A : Type 0} (P : A → List A → Type 0) (l : List A) (x : A) (m : List A) → Each P (l ++ x ∷ m) → P x m
+pub each-at : {A : Type 0} (P : A → List A → Type 0) (l : List A) (x : A) (m : List A) → Each P (l ++ x ∷ m) → P x m
 each-at P [] x m k = k .0
 each-at P (y ∷ l) x m k = each-at P l x m (k .1)
 

@@ -41,3 +41,4 @@ pub mod Refuted
 pub mod Increments
 pub mod Allowed
 pub mod AllStates
+pub mod Lines

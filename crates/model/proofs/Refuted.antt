@@ -415,12 +415,12 @@ pub wait-to-receive-by-another : Shut WaitsToReceive 1 3 4
 unfolding admitted
 wait-to-receive-by-another = ((λ d. d .queues 2 .takersAllowed .0 .0 .1), (λ d. d .queues 2 .takersAllowed .0 .0 .1), (λ d. d .queues 2 .takersAllowed .0 .0 .1))
 
--- ---- request T-10: tasks 1 and 3 are of priority 2, task 2 of priority 1, all of domain 1; queue 1, of capacity 0, has the attribute a and is for domain 1 only
+-- ---- request T-10: tasks 1 and 3 are of priority 2, tasks 2 and 4 of priority 1, task 5 of priority 3, all of domain 1; queue 1, of capacity 0, has the attribute a and is for domain 1 only
 abbrev ranked : ℕ → Queue
 ranked a = record { domain = negsuc 0; attribute = a; capacity = 0; buffer = []; vector = for 1 }
 
 abbrev priorityIn : ℕ → ℕ
-priorityIn t = at 0 (2 ∷ 1 ∷ 2 ∷ []) t
+priorityIn t = at 0 (2 ∷ 1 ∷ 2 ∷ 1 ∷ 3 ∷ []) t
 
 -- task t's send of a word answered "waiting"; a receive, by task 4, handed out a word and released task t
 abbrev linesUp : ℕ → ℕ → Made QueueCall
@@ -463,3 +463,31 @@ passed-first-come d = let e : 1 < 0 = d .inCallOrder 0 .0 .0 in omega arith
 -- a less urgent one passes while a more urgent one waits
 pub less-urgent-passed : Ranked 1 (takes 701 1 ∷ linesUp 2 702 ∷ linesUp 1 701 ∷ []) (sender 2 702 ∷ []) → ⊥
 less-urgent-passed d = let e : 2 ≤ 1 = d .urgentFirst .0 .0 .1 .0 in omega arith
+
+-- a less urgent one that came later passes
+pub later-less-urgent-passed : Ranked 1 (takes 701 1 ∷ linesUp 1 701 ∷ linesUp 2 702 ∷ []) (sender 2 702 ∷ []) → ⊥
+later-less-urgent-passed d = let e : 2 ≤ 1 = d .urgentFirst .0 .0 .0 in omega arith
+
+-- earlier in the list too
+pub less-urgent-passed-before : Ranked 1 (linesUp 3 703 ∷ takes 701 1 ∷ linesUp 2 702 ∷ linesUp 1 701 ∷ []) (sender 2 702 ∷ sender 3 703 ∷ []) → ⊥
+less-urgent-passed-before d = let e : 2 ≤ 1 = d .urgentFirst .1 .0 .0 .1 .0 in omega arith
+
+-- behind the first too
+pub urgent-behind-second : Ranked 1 (linesUp 1 701 ∷ linesUp 5 705 ∷ linesUp 2 702 ∷ []) (sender 2 702 ∷ sender 5 705 ∷ sender 1 701 ∷ []) → ⊥
+urgent-behind-second d = let e : 3 ≤ 2 = d .inLines .1 .0 .0 in omega arith
+
+-- where words are buffered too: a queue of capacity 1, into which task 4's word 700 went first
+abbrev roomy : Queue
+roomy = record { domain = negsuc 0; attribute = 1; capacity = 1; buffer = []; vector = for 1 }
+
+abbrev Roomy : List (Made QueueCall) → List ℕ → List Waiter → Type 0
+Roomy h b senders = Carried (λ (t : ℕ). pos 1) priorityIn roomy h b senders
+
+abbrev buffered : Made QueueCall
+buffered = record { caller = 4; asked = some (own (send polling 700)); answer = say ok 0 [] }
+
+pub urgent-behind-buffer : Roomy (linesUp 2 702 ∷ linesUp 1 701 ∷ buffered ∷ []) (700 ∷ []) (sender 1 701 ∷ sender 2 702 ∷ []) → ⊥
+urgent-behind-buffer d = let e : 2 ≤ 1 = d .inLines .0 .0 in omega arith
+
+pub less-urgent-refills : Roomy (takes 700 1 ∷ linesUp 2 702 ∷ linesUp 1 701 ∷ buffered ∷ []) (701 ∷ []) (sender 2 702 ∷ []) → ⊥
+less-urgent-refills d = let e : 2 ≤ 1 = d .urgentFirst .0 .0 .1 .0 in omega arith

@@ -36,6 +36,13 @@ senders-first-come s q h = ap byPriority h
 pub receivers-first-come : (s : State) (q : ℕ) → FirstCome s (place receiving q)
 receivers-first-come s q = refl
 
+-- and by priority at an object with attribute 1
+pub semaphore-by-priority : (s : State) (i : ℕ) → semAt s i .attribute ≡ 1 → orderOf s onSem i ≡ true
+semaphore-by-priority s i h = ap byPriority h
+
+pub senders-by-priority : (s : State) (q : ℕ) → queueAt s q .attribute ≡ 1 → orderOf s sending q ≡ true
+senders-by-priority s q h = ap byPriority h
+
 -- ---- no call changes the order at a place
 order-law : (s : State) (c : Call) (d : Side) (n : ℕ) → orderOf (step s c .state) d n ≡ orderOf s d n
 order-law s c onSem n = ap (λ (x : Sem). byPriority (x .attribute)) (Semaphores.entries-law s c .0 n)
