@@ -109,21 +109,18 @@ fn rows(name: &str, kernel: &str, work: Work, calls_a_round: f64) {
     for waiters in WAITERS {
         let times = measure(work, waiters, calls_a_round);
         let more = |of: Times| format!("{:+.1}%", (of.least / times[0].least - 1.0) * 100.0);
-        let [_, equal, last, first] = times.map(more);
-        let cells = times.map(table::cell).join(" | ");
-        println!("| {name} | {kernel} | {waiters} | {cells} | {equal} | {last} | {first} |");
+        let cells = times.map(|of| table::number(of.least)).join(" | ");
+        println!("| {name} | {kernel} | {waiters} | {cells} | {} |", more(times[2]));
     }
 }
 
 pub fn order() {
     println!("\nBoth kernels released the same tasks, in {} cases.", same_results());
-    println!(
-        "ns per call: the least of {RUNS} runs (the median). So many tasks wait before each signal or receive, and"
-    );
-    println!("one is released. The queue has {CAPACITY} words. More: beside first come, by the least.\n");
-    let kinds = "first come | equal | most urgent last | least urgent first | equal: more | last: more | first: more";
+    println!("ns per call: the least of {RUNS} runs. So many tasks wait before each signal or receive, and one is");
+    println!("released. The queue has {CAPACITY} words. More: the most urgent last beside first come.\n");
+    let kinds = "first come | equal | most urgent last | least urgent first | more";
     println!("| Calls | kernel | waiters | {kinds} |");
-    println!("|---|---|---|---|---|---|---|---|---|---|");
+    println!("|---|---|---|---|---|---|---|---|");
     for (name, ours, plain) in PAIRS {
         rows(name, "ours", ours, 2.0);
         rows(name, "ordinary", plain, 2.0);

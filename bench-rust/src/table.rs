@@ -63,7 +63,7 @@ fn same_results(workload: &Workload) {
 }
 
 /// With its thousands apart, and with tenths below a hundred.
-fn number(ns: f64) -> String {
+pub fn number(ns: f64) -> String {
     match ns.round() as u64 {
         0..100 => format!("{ns:.1}"),
         whole @ 100..1_000 => format!("{whole}"),
