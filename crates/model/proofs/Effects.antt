@@ -82,8 +82,8 @@ pub data Found (b : Bool) (ts : List TaskEntry) (p : Place) (ws : List Waiter) :
 
 module _ (b : Bool) (ts : List TaskEntry) (p : Place) where
   -- who came before others and waits there is the first, if it is not less urgent than the first of them
-  newest-first : (y : Waiter) (ws : List Waiter) → y .place ≡ p → All (λ (x : Waiter). y .task ≢ x .task) ws → All (λ (x : Waiter). x .place ≡ p → lineIn b ts y ≤ lineIn b ts x) ws → Found b ts p (y ∷ ws)
-  newest-first y ws t o h = first [] ws y refl (record { there = t; ahead = tt; after = h; once = o })
+  oldest-first : (y : Waiter) (ws : List Waiter) → y .place ≡ p → All (λ (x : Waiter). y .task ≢ x .task) ws → All (λ (x : Waiter). x .place ≡ p → lineIn b ts y ≤ lineIn b ts x) ws → Found b ts p (y ∷ ws)
+  oldest-first y ws t o h = first [] ws y refl (record { there = t; ahead = tt; after = h; once = o })
 
   -- one who came before all of them is passed over
   passed-over : (y : Waiter) (ws a c : List Waiter) (e : Waiter) → ws ≡ a ++ (e ∷ c) → (y .place ≡ p → lineIn b ts e < lineIn b ts y) → All (λ (x : Waiter). y .task ≢ x .task) ws → FirstAt b ts p a c e → Found b ts p (y ∷ ws)
@@ -105,14 +105,14 @@ module _ (b : Bool) (ts : List TaskEntry) (p : Place) where
       compared : (a c : List Waiter) (e : Waiter) → ws ≡ a ++ (e ∷ c) → FirstAt b ts p a c e → y .place ≡ p → (t : Bool) → leb (lineIn b ts y) (lineIn b ts e) ≡ t → Found b ts p (y ∷ ws)
       compared a c e q i h true k =
           let z = leb-true (lineIn b ts y) (lineIn b ts e) k in
-          newest-first y ws h others (subst (All (λ (x : Waiter). x .place ≡ p → lineIn b ts y ≤ lineIn b ts x)) (sym q)
+          oldest-first y ws h others (subst (All (λ (x : Waiter). x .place ≡ p → lineIn b ts y ≤ lineIn b ts x)) (sym q)
           (all-append (λ (x : Waiter). x .place ≡ p → lineIn b ts y ≤ lineIn b ts x) a (e ∷ c)
           (all-weaker (λ (x : Waiter). x .place ≡ p → lineIn b ts e < lineIn b ts x) (λ (x : Waiter). x .place ≡ p → lineIn b ts y ≤ lineIn b ts x) (λ x f w. omega (arith, z, f w)) a (i .ahead))
           ((λ w. z), all-weaker (λ (x : Waiter). x .place ≡ p → lineIn b ts e ≤ lineIn b ts x) (λ (x : Waiter). x .place ≡ p → lineIn b ts y ≤ lineIn b ts x) (λ x f w. omega (arith, z, f w)) c (i .after))))
       compared a c e q i h false k = passed-over y ws a c e q (λ w. omega (arith, leb-false (lineIn b ts y) (lineIn b ts e) k)) others i
 
       go : (t : Bool) → standsAt p y ≡ t → Found b ts p ws → Found b ts p (y ∷ ws)
-      go true h (nobody i) = newest-first y ws (place-of p (y .place) h) others (all-weaker (λ (x : Waiter). x .place ≢ p) (λ (x : Waiter). x .place ≡ p → lineIn b ts y ≤ lineIn b ts x) (λ x f w. absurd (f w)) ws i)
+      go true h (nobody i) = oldest-first y ws (place-of p (y .place) h) others (all-weaker (λ (x : Waiter). x .place ≢ p) (λ (x : Waiter). x .place ≡ p → lineIn b ts y ≤ lineIn b ts x) (λ x f w. absurd (f w)) ws i)
       go true h (first a c e q i) = compared a c e q i (place-of p (y .place) h) (leb (lineIn b ts y) (lineIn b ts e)) refl
       go false h (nobody i) = nobody (elsewhere h, i)
       go false h (first a c e q i) = passed-over y ws a c e q (λ w. absurd (elsewhere h w)) others i

@@ -1,4 +1,5 @@
 -- Building the table (document 01): which entry is taken and which code another gets, and what an entry or the closing changes. Plain facts only.
+use mathlib.Core.Logic.{_⊎_}
 use mathlib.Core.Path.{_≡_, refl, sym, ap, _∙_, subst}
 use mathlib.Core.Bool.{Bool, true, false, not, _&&_}
 use mathlib.Core.List.{List, [], _∷_, _++_}
@@ -18,7 +19,7 @@ use Rattle.model.specs.State.{TaskEntry, Sem, Queue, Region, State, noTa
 use Rattle.model.specs.Answers.{Out, refuseIf}
 use Rattle.model.specs.Queues.{wordsUsed}
 use Rattle.model.specs.Regions.{lastEnd, placeOk}
-use Rattle.model.specs.Conditions.{TaskOwner, Owner, OrderAttribute, RegionAttribute}
+use Rattle.model.specs.Conditions.{TaskOwner, Owner, RegionAttribute}
 use Rattle.model.specs.Units.{unitOk}
 use Rattle.model.specs.Table.{Entry, task, sem, queue, region, owns, ownsTask, Tests, testsOf, checkEntry, enterBy, enter, freshBy, fresh, closeBy, close}
 use Rattle.model.proofs.Tests.{Tells, holds, fails, le-tells, lt-tells, eq-tells, always-tells, never-tells, and-tells, or-tells, not-tells, passes-on, stops-at}
@@ -52,8 +53,8 @@ pub record Facts : Type 1 where
 
 abbrev pub facts : State → Entry → Facts
 facts s (task d p) = record { room = length (s .fixed .tasks) < maxTasks; owned = TaskOwner (s .fixed .count) d; attribute = Unit; numbers = (1 ≤ p) × (p ≤ maxPriority); above = Unit; memory = Unit }
-facts s (sem d a b m v) = record { room = length (s .sems) < maxSemaphores; owned = Owner (s .fixed .count) d; attribute = OrderAttribute a; numbers = Counts b m; above = Unit; memory = Unit }
-facts s (queue d a c v) = record { room = length (s .queues) < maxQueues; owned = Owner (s .fixed .count) d; attribute = OrderAttribute a; numbers = c ≤ maxCapacity; above = Unit; memory = capacities (s .queues) + c ≤ maxWords }
+facts s (sem d a b m v) = record { room = length (s .sems) < maxSemaphores; owned = Owner (s .fixed .count) d; attribute = (a ≡ 0) ⊎ (a ≡ 1); numbers = Counts b m; above = Unit; memory = Unit }
+facts s (queue d a c v) = record { room = length (s .queues) < maxQueues; owned = Owner (s .fixed .count) d; attribute = (a ≡ 0) ⊎ (a ≡ 1); numbers = c ≤ maxCapacity; above = Unit; memory = capacities (s .queues) + c ≤ maxWords }
 facts s (region d a b z v) =
     record { room = length (s .fixed .regions) < maxRegions; owned = Owner (s .fixed .count) d; attribute = RegionAttribute a; numbers = Area (s .fixed .unit) b z; above = Above (s .fixed .regions) b; memory = Unit }
 

@@ -1,4 +1,4 @@
--- What demand 3 says of a queue in priority order, as a whole (request T-10). Assumes nothing.
+-- What demand 3 says of a queue in priority order, and the order of every wait queue (request T-10). Assumes nothing.
 use mathlib.Core.Path.{_≡_, refl, sym, ap, _∙_, subst}
 use mathlib.Core.Bool.{Bool, true, false, cond}
 use mathlib.Core.List.{List, [], _∷_, _++_, map, head-eq-of-cons-eq, tail-eq-of-cons-eq}
@@ -8,14 +8,17 @@ use lib.Dec.{eqb, leb}
 use lib.IntN.{ℤ}
 use borrow.Author.Tests.{leb-true, leb-false}
 use Rattle.model.specs.Lists.{All, Each, keep, consIf, arrange}
-use Rattle.model.specs.State.{Queue, Waiter}
+use Rattle.model.specs.State.{Place, Queue, Waiter, State, queueAt, priorityAt}
+use Rattle.model.specs.Waits.{waitersAt, standing, orderOf, waitQueue, senders}
+use Rattle.model.specs.Demand3.{Demand3}
 use Rattle.model.specs.Queues.{QueueCall}
-use Rattle.model.specs.History.{Made}
-use Rattle.model.specs.Sends.{Sent, waitingSends, freedBy}
-use Rattle.model.specs.QueueClaims.{Sender, senderOf, senderIn, lineOf, Rising, Carried}
+use Rattle.model.specs.History.{History, Made}
+use Rattle.model.specs.Sends.{Sent, unforced, accepted, waitingSends, freedBy, entered}
+use Rattle.model.specs.QueueClaims.{byQueue, Sender, senderOf, senderIn, lineOf, Rising, Carried}
 use Rattle.model.proofs.Lists.{cons-ne, eqb-same, eqb-no}
-use Rattle.model.proofs.Order.{Ranked, ranked-arrange, in-line}
+use Rattle.model.proofs.Order.{Ranked, ranked-arrange, in-line, standing-line, standing-rises}
 use Rattle.model.proofs.Allowed.{each-at}
+use Rattle.model.proofs.CallOrder.{line-order}
 
 module _ {A : Type 0} (rank : A → ℕ) where
   abbrev row : ℕ → List A → List A
@@ -38,7 +41,7 @@ module _ {A : Type 0} (rank : A → ℕ) where
   not-lower x y l m o f h = cons-ne (heads-row x l) (f (rank x) ∙ none-lower (rank x) (y ∷ m) (h, above (rank x) (rank y) m h (o .0)))
 
   -- two lists by rank with the same elements of each rank in the same order are the same
-  pub same-rows : (l m : List A) → Ranked rank l → Ranked rank m → ((k : ℕ) → row k l ≡ row k m) → l ≡ m
+  same-rows : (l m : List A) → Ranked rank l → Ranked rank m → ((k : ℕ) → row k l ≡ row k m) → l ≡ m
   same-rows [] [] o q f = refl
   same-rows [] (y ∷ m) o q f = absurd (cons-ne (heads-row y m) (sym (f (rank y))))
   same-rows (x ∷ l) [] o q f = absurd (cons-ne (heads-row x l) (f (rank x)))
@@ -89,3 +92,30 @@ module _ {domain : ℕ → ℤ} {priority : ℕ → ℕ} {x : Queue} {h : List (
   urgent-goes a g m e =
       subst (λ (n : ℕ). All (λ (y : Sent). All (λ (z : Sent). cond (eqb n 1) (priority (y .task)) 0 ≤ cond (eqb n 1) (priority (z .task)) 0) (waitingSends g)) (freedBy m g)) ordered
       (each-at (λ (m : Made QueueCall) (g : List (Made QueueCall)). All (λ (y : Sent). All (λ (z : Sent). lineOf priority x (y .task) ≤ lineOf priority x (z .task)) (waitingSends g)) (freedBy m g)) a m g (subst (Each _) e (d .urgentFirst)))
+
+-- ---- every wait queue, of semaphores and receivers too: the same tasks as those who wait there, in the order that holds
+module _ (s : State) (p : Place) where
+  pub stand-as-they-came : orderOf s (p .side) (p .number) ≡ false → waitQueue s p ≡ waitersAt s p
+  stand-as-they-came f = ap (λ (b : Bool). standing b (s .fixed .tasks) (waitersAt s p)) f
+
+  module _ (f : orderOf s (p .side) (p .number) ≡ true) where
+    -- the more urgent first
+    pub stand-by-priority : Rising (map (λ (e : Waiter). priorityAt s (e .task)) (waitQueue s p))
+    stand-by-priority = subst (λ (b : Bool). Rising (map (λ (e : Waiter). priorityAt s (e .task)) (standing b (s .fixed .tasks) (waitersAt s p)))) (sym f) (standing-rises true (s .fixed .tasks) (waitersAt s p))
+
+    -- equals as they came, and nobody left out
+    pub equals-as-they-came : (k : ℕ) → keep (λ (e : Waiter). eqb k (priorityAt s (e .task))) (waitQueue s p) ≡ keep (λ (e : Waiter). eqb k (priorityAt s (e .task))) (waitersAt s p)
+    equals-as-they-came k = subst (λ (b : Bool). keep (λ (e : Waiter). eqb k (priorityAt s (e .task))) (standing b (s .fixed .tasks) (waitersAt s p)) ≡ keep (λ (e : Waiter). eqb k (priorityAt s (e .task))) (waitersAt s p)) (sym f) (standing-line true (s .fixed .tasks) k (waitersAt s p))
+
+-- ---- and of demand 3 itself
+module _ {s₀ s : State} {h : History} (d : Demand3 s₀ h s) (q : ℕ) (ordered : queueAt s₀ q .attribute ≡ 1) where
+  pub demand-stands : map senderOf (senders s q) ≡ arrange (λ (y : Sender). priorityAt s₀ (y .task)) (map senderIn (waitingSends (byQueue q h)))
+  demand-stands = senders-stand (d .queues q) ordered
+
+  pub demand-urgent : (a g : List (Made QueueCall)) (m : Made QueueCall) → byQueue q h ≡ a ++ (m ∷ g) → All (λ (y : Sent). All (λ (z : Sent). priorityAt s₀ (y .task) ≤ priorityAt s₀ (z .task)) (waitingSends g)) (freedBy m g)
+  demand-urgent = urgent-goes (d .queues q) ordered
+
+  pub demand-line : (k : ℕ) → keep (λ (y : Sent). eqb k (priorityAt s₀ (y .task))) (keep unforced (entered (byQueue q h) ++ waitingSends (byQueue q h))) ≡ keep (λ (y : Sent). eqb k (priorityAt s₀ (y .task))) (keep unforced (accepted (byQueue q h)))
+  demand-line k =
+      let line : ℕ → Sent → Bool = λ n y. eqb k (cond (eqb n 1) (priorityAt s₀ (y .task)) 0) in
+      subst (λ (n : ℕ). keep (line n) (keep unforced (entered (byQueue q h) ++ waitingSends (byQueue q h))) ≡ keep (line n) (keep unforced (accepted (byQueue q h)))) ordered (line-order (d .queues q) refl k)

@@ -94,7 +94,7 @@ module _ {A : Type 0} (rank : A → ℕ) where
   ranked-arrange [] = tt
   ranked-arrange (x ∷ l) = ranked-insert x (arrange rank l) (ranked-arrange l)
 
-  pub all-arrange : (P : A → Type 0) (l : List A) → All P l → All P (arrange rank l)
+  all-arrange : (P : A → Type 0) (l : List A) → All P l → All P (arrange rank l)
   all-arrange P [] h = tt
   all-arrange P (x ∷ l) h = all-insert P x (arrange rank l) (h .0) (all-arrange P l (h .1))
 
@@ -123,7 +123,7 @@ module _ {A : Type 0} (rank : A → ℕ) where
   length-arrange (x ∷ l) = length-insert x (arrange rank l) ∙ ap suc (length-arrange l)
 
   -- choosing and arranging, whichever is first
-  pub keep-arrange : (p : A → Bool) (l : List A) → keep p (arrange rank l) ≡ arrange rank (keep p l)
+  keep-arrange : (p : A → Bool) (l : List A) → keep p (arrange rank l) ≡ arrange rank (keep p l)
   keep-arrange p [] = refl
   keep-arrange p (x ∷ l) = keep-insert p x (arrange rank l) (ranked-arrange l) ∙ go (p x) (keep-arrange p l)
     where
@@ -165,7 +165,7 @@ module _ {A : Type 0} (rank : A → ℕ) where
       each [] h = tt
       each (y ∷ l) h = (h .0, each l (h .1))
 
-  pub rises-arranged : (l : List A) → Rising (map rank (arrange rank l))
+  rises-arranged : (l : List A) → Rising (map rank (arrange rank l))
   rises-arranged l = rises (arrange rank l) (ranked-arrange l)
 
 -- ---- each task once
@@ -210,7 +210,7 @@ abbrev pub lineIn : Bool → List TaskEntry → Waiter → ℕ
 lineIn b ts e = cond b (priorityIn ts e) 0
 
 -- choosing and standing, whichever is first
-pub standing-keep : (b : Bool) (ts : List TaskEntry) (p : Waiter → Bool) (l : List Waiter) → keep p (standing b ts l) ≡ standing b ts (keep p l)
+standing-keep : (b : Bool) (ts : List TaskEntry) (p : Waiter → Bool) (l : List Waiter) → keep p (standing b ts l) ≡ standing b ts (keep p l)
 standing-keep true ts p l = keep-arrange (priorityIn ts) p l
 standing-keep false ts p l = refl
 
@@ -256,7 +256,7 @@ pub standing-nobody : (b : Bool) (ts : List TaskEntry) → standing b ts [] ≡ 
 standing-nobody true ts = refl
 standing-nobody false ts = refl
 
-pub standing-some : (b : Bool) (ts : List TaskEntry) (P : Waiter → Type 0) (l : List Waiter) → Some P (standing b ts l) → Some P l
+standing-some : (b : Bool) (ts : List TaskEntry) (P : Waiter → Type 0) (l : List Waiter) → Some P (standing b ts l) → Some P l
 standing-some true ts P l h = some-arrange (priorityIn ts) P l h
 standing-some false ts P l h = h
 

@@ -134,5 +134,5 @@ queued p (e ∷ l) = go (standsAt p e) refl (queued p l)
     go true h i = here e l (waitersIn l p) (place-of p (e .place) h) i
     go false h i = elsewhere e l (waitersIn l p) (λ q. no-both (ap (samePlace p) q ∙ alike p) h) i
 
-pub wait-queue : (s : State) (p : Place) → Queued p (s .waits) (waitersAt s p)
-wait-queue s p = queued p (s .waits)
+pub arrivals : (s : State) (p : Place) → Queued p (s .waits) (waitersAt s p)
+arrivals s p = queued p (s .waits)

@@ -94,7 +94,7 @@ Owner n (negsuc (suc (suc k))) = ⊥
 abbrev pub RegionAttribute : ℕ → Type 0
 RegionAttribute a = (((a ≡ 0) ⊎ (a ≡ 1)) ⊎ (a ≡ 4)) ⊎ (a ≡ 5)
 
--- a priority from 1 to its limit
+-- its owner, and a priority from 1 to its limit
 abbrev pub TaskEntryFits : ℕ → TaskEntry → Type 0
 TaskEntryFits n x = TaskOwner n (x .domain) × (1 ≤ x .priority) × (x .priority ≤ maxPriority)
 

@@ -79,7 +79,7 @@ pub(crate) fn signal(tasks: Tasks, semaphores: Semaphores, object: usize) -> Eff
     requires { ⌜ TasksHeld.Held tasks × Held semaphores × (object < length (semsOf semaphores)) ⌝ }
     ensures { λ r. ⌜ r ≡ effectAs (entriesOf tasks) (onSignal (entriesOf tasks) (waitsOf tasks) (semsOf semaphores) (suc object)) ⌝ }
 {
-    // Measured: by `get` this costs the same, one copy of the semaphores.
+    // The attribute says who is first. Measured: reading it copies the semaphores once, here and by `get`.
     let mut semaphore = semaphores.records[object];
     let by_priority = attribute::by_priority(semaphore.attribute);
     match tasks.first(Side::OnSem, object, by_priority) {
