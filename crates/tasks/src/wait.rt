@@ -6,17 +6,15 @@ ghost use Prim.Native.Nat.{ℕ, suc, _<_};
 ghost use lib.ListN.{length, getD};
 ghost use Rattle.model.specs.State.{place, samePlace, sideNumber, no};
 ghost use Rattle.model.specs.Waits.{waitersIn, standing, firstTask, orWaits};
-ghost use Rattle.tasks.specs.View.{entriesOf, waitsOf, waiterOf, noTask};
+ghost use Rattle.tasks.specs.View.{entriesOf, waitsOf, waiterOf};
 ghost use Rattle.tasks.specs.Held.{Held, Free, isReady};
 ghost use Rattle.tasks.specs.Ends.{firstOf, taskIn, callerOf, endedOf, wokenOf};
 use crate::lead::Lead;
 use crate::state::Tasks;
-use crate::task::Task;
 use crate::task::Wait;
 use access::domain;
 use itron::code::E_OK;
 use itron::code::E_TMOUT;
-use itron::limit::MAX_TASKS;
 use model::Outcome;
 use model::Patience;
 use model::Released;
@@ -39,17 +37,6 @@ pub enum Caller {
 pub struct Ended {
     pub reply: Reply,
     pub tasks: Tasks,
-}
-
-// What the task at an index does; past the end it is ready.
-pub(crate) fn wait_of(entries: [Task; MAX_TASKS], index: usize) -> Wait
-    ensures { λ r. ⌜ r ≡ getD entries index noTask .wait ⌝ }
-{
-    if MAX_TASKS <= index {
-        return Wait::Ready;
-    }
-    let task = entries[index];
-    task.wait
 }
 
 // A side by its number.
@@ -112,7 +99,7 @@ impl Tasks {
         let mut i = 0;
         while i < waiting {
             let task = order[i] as usize;
-            // Not by `wait_of`: measured, that copies all tasks for each one passed.
+            // Measured: a function of all tasks and an index copies them for each one passed.
             let entry = entries[task];
             let wait = entry.wait;
             if waits_at(wait, side, object) {
@@ -197,7 +184,8 @@ impl Tasks {
         }
         let task = number - 1;
         let entries = self.entries;
-        let wait = wait_of(entries, task);
+        let entry = entries[task];
+        let wait = entry.wait;
         First::Waiter(task, word_of(wait))
     }
 
