@@ -29,7 +29,7 @@ use tasks::wait::Ended;
 use tasks::wait::First;
 
 // Receivers stand as they came, whatever the attribute says.
-pub(crate) const RECEIVERS_BY_PRIORITY: bool = false;
+pub const RECEIVERS_BY_PRIORITY: bool = false;
 
 // What a call gives: the reply, what a refer tells, and the tasks and the queues after it.
 pub struct Effect {

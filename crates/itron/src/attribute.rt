@@ -1,4 +1,5 @@
 // Attributes of the objects at which tasks wait, by their names in μITRON4.0 (request T-10).
+
 // Tasks stand in the order in which they came.
 pub const TA_TFIFO: u32 = 0;
 

@@ -1,4 +1,4 @@
-// What every room of the core shares: attributes, result codes and limits (document 01). No state and no function.
+// What every room of the core shares: attributes, result codes and limits (documents 01 and 02). No state.
 pub mod attribute;
 pub mod code;
 pub mod limit;

@@ -10,6 +10,7 @@ ghost use Rattle.kernel.specs.View.{viewOf};
 ghost use Rattle.kernel.specs.Valid.{Valid};
 ghost use Rattle.kernel.specs.Answers.{summaryOf};
 use crate::state::State;
+use dataqueue::call::RECEIVERS_BY_PRIORITY;
 use model::Side;
 use model::attribute;
 use tasks::task::Task;
@@ -61,7 +62,7 @@ impl State {
     {
         match side {
             Side::OnSem => attribute::by_priority(self.semaphore(number).attribute),
-            Side::Receiving => false,
+            Side::Receiving => RECEIVERS_BY_PRIORITY,
             Side::Sending => attribute::by_priority(self.queue(number).attribute),
         }
     }

@@ -91,7 +91,7 @@ sendersOf ts ws xs q = standing (byPriority (queueIn xs q .attribute)) ts (waite
 
 -- ---- the calls, once the checks are passed
 -- send: with a waiting receiver, the first gets the word and is released; otherwise, with room, the word goes last into the buffer;
--- otherwise poll-send gives E_TMOUT and send waits with its word, last
+-- otherwise poll-send gives E_TMOUT and send waits with its word, the last to come
 abbrev pub sendBy : List Waiter → List Queue → ℕ → ℕ → ℕ → Patience → List Waiter → Bool → Effect Queue
 sendBy ws xs t q w p (e ∷ l) room = wakes ws xs e 0 w
 sendBy ws xs t q w p [] true = gives ws (setBuffer xs q (queueIn xs q .buffer ++ (w ∷ []))) 0

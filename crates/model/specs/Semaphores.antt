@@ -82,7 +82,7 @@ signalBy ws xs i [] false = gives ws (setCount xs i (suc (semIn xs i .count))) 0
 abbrev pub onSignal : List TaskEntry → List Waiter → List Sem → ℕ → Effect Sem
 onSignal ts ws xs i = signalBy ws xs i (waitersOf ts ws xs i) (leb (semIn xs i .max) (semIn xs i .count))
 
--- poll and wait by task t: count above 0: minus 1, E_OK; otherwise poll gives E_TMOUT and wait waits, last
+-- poll and wait by task t: count above 0: minus 1, E_OK; otherwise poll gives E_TMOUT and wait waits, the last to come
 abbrev pub acquireBy : List Waiter → List Sem → ℕ → ℕ → Patience → ℕ → Effect Sem
 acquireBy ws xs t i p (suc k) = gives ws (setCount xs i k) 0
 acquireBy ws xs t i p zero = orWaits ws xs p (waiter t onSem i 0)

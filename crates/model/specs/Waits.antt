@@ -81,7 +81,7 @@ module _ {R : Type 0} (ws : List Waiter) (rs : List R) where
   abbrev pub wakes : Waiter → ℕ → ℕ → Effect R
   wakes e word handed = effect (say ok word (freed e handed)) (leave (e .task) ws) rs
 
-  -- a poll gives E_TMOUT; otherwise the caller waits, last, and the answer is "waiting"
+  -- a poll gives E_TMOUT; otherwise the caller waits, the last to come, and the answer is "waiting"
   abbrev pub orWaits : Patience → Waiter → Effect R
   orWaits polling e = refusal eTmout
   orWaits forever e = effect (say waiting 0 []) (join e ws) rs
