@@ -4,7 +4,7 @@ use native.Mathlib.Omega.{arith}
 use mathlib.Core.Path.{_≡_, refl, sym, ap, _∙_, subst}
 use mathlib.Core.Logic.{inl, inr}
 use mathlib.Core.Bool.{Bool, true, false}
-use mathlib.Core.List.{List, [], _∷_, _++_}
+use mathlib.Core.List.{List, [], _∷_, _++_, map}
 use mathlib.Core.Option.{some}
 use lib.IntN.{ℤ, pos, negsuc, negℤ}
 use lib.ListN.{length, drop}
@@ -12,9 +12,14 @@ use lib.Seq.{drop-length}
 use Rattle.access.specs.Patterns.{admitted}
 use Rattle.access.proofs.Laws.{kernel-always, zeros-kernel-only}
 use Rattle.itron.specs.Codes.{Code, ok, waiting}
-use Rattle.model.specs.State.{Place, Waiter, place, waiter, queueAt, domainAt, no}
+use Rattle.model.specs.State.{Place, Waiter, place, waiter, semAt, queueAt, domainAt, priorityAt, no}
 use Rattle.model.specs.Answers.{outcomeOf}
-use Rattle.model.specs.Waits.{waitersAt}
+use Rattle.model.specs.Waits.{waitersAt, senders}
+use Rattle.model.specs.Table.{close}
+use Rattle.model.specs.Sends.{waitingSends}
+use Rattle.model.specs.QueueClaims.{byQueue, Sender, senderOf, senderIn}
+use Rattle.model.proofs.Lines.{demand-stands}
+use Rattle.model.proofs.Turns.{semaphore-first-come, senders-first-come, receivers-first-come}
 use Rattle.model.specs.Acts.{Act, own}
 use Rattle.model.specs.declared.Outcome.the-variants as Outcome
 use Rattle.model.specs.declared.Patience.{Patience}
@@ -24,7 +29,7 @@ use Rattle.model.specs.declared.sem.SemaphoreCall.the-variants.{Signal as signa
 use Rattle.model.specs.declared.dtq.QueueCall.{QueueCall}
 use Rattle.model.specs.declared.dtq.QueueCall.the-variants.{Send as send, Receive as receive, ForcedSend as forcedSend}
 use Rattle.model.specs.Calls.{Op, onSemaphore, onQueue, Call, call, step}
-use Rattle.model.specs.Lists.{Some, total}
+use Rattle.model.specs.Lists.{Some, total, arrange}
 use Rattle.model.specs.History.{event, after, history, without}
 use Rattle.model.specs.Demand3.{Demand3}
 use Rattle.model.specs.Turns.{countIf, countAt, serves}
@@ -36,7 +41,10 @@ use Rattle.model.proofs.Increments.{did, More, word-waits, word-taken, sender-j
 use Rattle.kernel.specs.declared.state.State.{State}
 use Rattle.kernel.specs.declared.state.Answer.{Answer}
 use Rattle.kernel.specs.View.{viewOf}
-use Rattle.kernel.specs.Promises.{Does}
+use Rattle.kernel.specs.Promises.{Enters, Does}
+use Rattle.kernel.specs.Valid.{Valid}
+use Rattle.kernel.specs.declared.state.Entered.{Entered}
+use Rattle.laws.proofs.Runs.{whole, turns}
 use Rattle.laws.specs.Runs.{Built, taken, Said, saidIn, Ran}
 use Rattle.laws.specs.Claims.{Whole, TakesTurns, DeniesExactly}
 
@@ -155,3 +163,18 @@ module _ {t : State} {b : Built t} {s₀ s : State} {cs : List Call} {c : Call} 
       go : (x : Bool) → admitted 0 (pos (suc k)) ≡ x → x ≡ false
       go true q = let f : pos (suc k) ≡ negsuc 0 = zeros-kernel-only (pos (suc k)) q in cc
       go false q = refl
+
+-- ---- request T-10, of the program, whatever the table: the senders of a queue in priority order, and turns wherever those who wait stand as they came
+pub senders-by-priority : {s s′ : State} {r : Entered} {cs : List Call} {l : List Said} → Built s → Enters s (close (viewOf s)) r → Ran (r .state) cs s′ l → (q : ℕ) → queueAt (viewOf (r .state)) q .attribute ≡ 1
+    → map senderOf (senders (viewOf s′) q) ≡ arrange (λ (y : Sender). priorityAt (viewOf (r .state)) (y .task)) (map senderIn (waitingSends (byQueue q (history (viewOf (r .state)) cs))))
+senders-by-priority b g h q e = demand-stands (whole b g h .demand) q e
+
+module _ {s : State} (v : Valid s) (n : ℕ) (e : Waiter) (ahead behind : List Waiter) where
+  pub turns-at-semaphore : semAt (viewOf s) n .attribute ≡ 0 → waitersAt (viewOf s) (place onSem n) ≡ ahead ++ e ∷ behind → TakesTurns s (place onSem n) e ahead
+  turns-at-semaphore h w = turns v (place onSem n) (semaphore-first-come (viewOf s) n h) e ahead behind w
+
+  pub turns-to-send : queueAt (viewOf s) n .attribute ≡ 0 → waitersAt (viewOf s) (place sending n) ≡ ahead ++ e ∷ behind → TakesTurns s (place sending n) e ahead
+  turns-to-send h w = turns v (place sending n) (senders-first-come (viewOf s) n h) e ahead behind w
+
+  pub turns-to-receive : waitersAt (viewOf s) (place receiving n) ≡ ahead ++ e ∷ behind → TakesTurns s (place receiving n) e ahead
+  turns-to-receive w = turns v (place receiving n) (receivers-first-come (viewOf s) n) e ahead behind w

@@ -13,7 +13,7 @@ use Rattle.model.specs.Waits.{waitersAt, standing, orderOf, waitQueue, s
 use Rattle.model.specs.Demand3.{Demand3}
 use Rattle.model.specs.Queues.{QueueCall}
 use Rattle.model.specs.History.{History, Made}
-use Rattle.model.specs.Sends.{Sent, unforced, accepted, waitingSends, freedBy, entered}
+use Rattle.model.specs.Sends.{Sent, unforced, accepted, waitingSends, enters, entered}
 use Rattle.model.specs.QueueClaims.{byQueue, Sender, senderOf, senderIn, lineOf, Rising, Carried}
 use Rattle.model.proofs.Lists.{cons-ne, eqb-same, eqb-no}
 use Rattle.model.proofs.Order.{Ranked, ranked-arrange, in-line, standing-line, standing-rises}
@@ -87,11 +87,11 @@ module _ {domain : ℕ → ℤ} {priority : ℕ → ℕ} {x : Queue} {h : List (
       (λ k. d .sendersAre k ∙ sym (in-line (λ (y : Sender). lineOf priority x (y .task)) k (map senderIn (waitingSends h))))
       ∙ ap (λ (n : ℕ). arrange (λ (y : Sender). cond (eqb n 1) (priority (y .task)) 0) (map senderIn (waitingSends h))) ordered
 
-  -- a call, wherever it stands in the list, lets go on of those who wait to send only whom none is more urgent than
-  pub urgent-goes : (a g : List (Made QueueCall)) (m : Made QueueCall) → h ≡ a ++ (m ∷ g) → All (λ (y : Sent). All (λ (z : Sent). priority (y .task) ≤ priority (z .task)) (waitingSends g)) (freedBy m g)
+  -- with a call, wherever it stands in the list, no send that is not forced enters or passes while a more urgent one waits
+  pub urgent-goes : (a g : List (Made QueueCall)) (m : Made QueueCall) → h ≡ a ++ (m ∷ g) → All (λ (y : Sent). All (λ (z : Sent). priority (y .task) ≤ priority (z .task)) (waitingSends g)) (keep unforced (enters m g))
   urgent-goes a g m e =
-      subst (λ (n : ℕ). All (λ (y : Sent). All (λ (z : Sent). cond (eqb n 1) (priority (y .task)) 0 ≤ cond (eqb n 1) (priority (z .task)) 0) (waitingSends g)) (freedBy m g)) ordered
-      (each-at (λ (m : Made QueueCall) (g : List (Made QueueCall)). All (λ (y : Sent). All (λ (z : Sent). lineOf priority x (y .task) ≤ lineOf priority x (z .task)) (waitingSends g)) (freedBy m g)) a m g (subst (Each _) e (d .urgentFirst)))
+      subst (λ (n : ℕ). All (λ (y : Sent). All (λ (z : Sent). cond (eqb n 1) (priority (y .task)) 0 ≤ cond (eqb n 1) (priority (z .task)) 0) (waitingSends g)) (keep unforced (enters m g))) ordered
+      (each-at (λ (m : Made QueueCall) (g : List (Made QueueCall)). All (λ (y : Sent). All (λ (z : Sent). lineOf priority x (y .task) ≤ lineOf priority x (z .task)) (waitingSends g)) (keep unforced (enters m g))) a m g (subst (Each _) e (d .urgentFirst)))
 
 -- ---- every wait queue, of semaphores and receivers too: the same tasks as those who wait there, in the order that holds
 module _ (s : State) (p : Place) where
@@ -112,7 +112,7 @@ module _ {s₀ s : State} {h : History} (d : Demand3 s₀ h s) (q : ℕ) (ordere
   pub demand-stands : map senderOf (senders s q) ≡ arrange (λ (y : Sender). priorityAt s₀ (y .task)) (map senderIn (waitingSends (byQueue q h)))
   demand-stands = senders-stand (d .queues q) ordered
 
-  pub demand-urgent : (a g : List (Made QueueCall)) (m : Made QueueCall) → byQueue q h ≡ a ++ (m ∷ g) → All (λ (y : Sent). All (λ (z : Sent). priorityAt s₀ (y .task) ≤ priorityAt s₀ (z .task)) (waitingSends g)) (freedBy m g)
+  pub demand-urgent : (a g : List (Made QueueCall)) (m : Made QueueCall) → byQueue q h ≡ a ++ (m ∷ g) → All (λ (y : Sent). All (λ (z : Sent). priorityAt s₀ (y .task) ≤ priorityAt s₀ (z .task)) (waitingSends g)) (keep unforced (enters m g))
   demand-urgent = urgent-goes (d .queues q) ordered
 
   pub demand-line : (k : ℕ) → keep (λ (y : Sent). eqb k (priorityAt s₀ (y .task))) (keep unforced (entered (byQueue q h) ++ waitingSends (byQueue q h))) ≡ keep (λ (y : Sent). eqb k (priorityAt s₀ (y .task))) (keep unforced (accepted (byQueue q h)))

@@ -162,14 +162,6 @@ module _ {A : Type 0} where
       go true e ih = ap (λ (m : List A). x ∷ m) (ih (omega (arith, e)))
       go false e ih = absurd (omega (arith, e, keep-length p l))
 
-  pub keep-rest : (p : A → Bool) (l : List A) → length (keep (λ x. not (p x)) l) ≡ length l → keep p l ≡ []
-  keep-rest p [] h = refl
-  keep-rest p (x ∷ l) h = go (p x) h (keep-rest p l)
-    where
-      go : (b : Bool) → length (consIf (not b) x (keep (λ y. not (p y)) l)) ≡ suc (length l) → (length (keep (λ y. not (p y)) l) ≡ length l → keep p l ≡ []) → consIf b x (keep p l) ≡ []
-      go true e ih = absurd (omega (arith, e, keep-length (λ y. not (p y)) l))
-      go false e ih = ih (omega (arith, e))
-
 -- ---- append and map
 pub append-cancel : {A : Type 0} (l : List A) {a b : List A} → l ++ a ≡ l ++ b → a ≡ b
 append-cancel [] e = e

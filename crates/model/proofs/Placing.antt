@@ -18,9 +18,9 @@ use Rattle.model.specs.Acts.{Act, own, refer, setVector}
 use Rattle.model.specs.Rooms.{actOn}
 use Rattle.model.specs.Queues.{QueueCall, send, receive, forcedSend, queueIn, setBuffer, sendersOf, does, told, room}
 use Rattle.model.specs.History.{Made}
-use Rattle.model.specs.Sends.{Sent, sentAs, wordOf, shown, notShown, waitingSends, accepts, enters, handed, findsFull, buffered}
-use Rattle.model.specs.QueueClaims.{Sender, senderOf, senderIn, FreesFirst}
-use Rattle.model.proofs.Lists.{Distinct, cons-ne, no-both, eq-of, eqb-same, and-left, and-right, at-put-same, at-put-keep, keep-comm, keep-within, keep-whole, keep-rest, map-append, map-keep, map-parts, absent-keep, distinct-keep}
+use Rattle.model.specs.Sends.{Sent, sentAs, wordOf, unforced, shown, notShown, waitingSends, accepts, enters, handed, findsFull, buffered}
+use Rattle.model.specs.QueueClaims.{Sender, senderOf, senderIn, NoneBefore, EntersFirst}
+use Rattle.model.proofs.Lists.{Distinct, cons-ne, no-both, eq-of, eqb-same, and-left, and-right, at-put-same, at-put-keep, keep-comm, keep-within, keep-whole, all-keep, map-append, map-keep, map-parts, absent-keep, distinct-keep}
 use Rattle.model.proofs.Order.{standing-none, standing-line, standing-least, standing-distinct}
 use Rattle.model.proofs.Rooms.{ok-same, accepted-same}
 use Rattle.model.proofs.Queues.{QueueOk, viewIn, cover, empty, unheld}
@@ -39,13 +39,16 @@ none-shown (x ∷ l) = ap (λ (m : List Sent). x ∷ m) (none-shown l)
 waits-on : (l : List Sent) → keep (notShown []) l ++ [] ≡ l
 waits-on l = append-nil (keep (notShown []) l) ∙ none-shown l
 
-none-freed : (l : List Sent) → keep (shown []) l ≡ []
-none-freed [] = refl
-none-freed (x ∷ l) = none-freed l
+-- nothing enters before a more urgent one: where nothing but by force enters, and where nobody waits
+none-enters : (line : ℕ → ℕ) (m : Made QueueCall) (h : List (Made QueueCall)) → keep unforced (enters m h) ≡ [] → EntersFirst line m h
+none-enters line m h e = subst (All (NoneBefore line h)) (sym e) tt
 
--- who frees nobody frees nobody before another
-frees-none : (line : ℕ → ℕ) (m : Made QueueCall) (h : List (Made QueueCall)) → keep (shown (m .answer .released)) (waitingSends h) ≡ [] → FreesFirst line m h
-frees-none line m h e = subst (All (λ (y : Sent). All (λ (z : Sent). line (y .task) ≤ line (z .task)) (waitingSends h))) (sym e) tt
+none-waits : (line : ℕ → ℕ) (m : Made QueueCall) (h : List (Made QueueCall)) → waitingSends h ≡ [] → EntersFirst line m h
+none-waits line m h e = each (keep unforced (enters m h))
+  where
+    each : (l : List Sent) → All (NoneBefore line h) l
+    each [] = tt
+    each (y ∷ l) = (subst (All _) (sym e) tt, each l)
 
 as-many : (x : List Waiter) (l : List Sent) → map senderOf x ≡ map senderIn l → length x ≡ length l
 as-many x l h = sym (length-map x senderOf) ∙ ap length h ∙ length-map l senderIn
@@ -143,7 +146,7 @@ module _ (line : ℕ → ℕ) (e : Waiter) (x a : List Waiter) (v : ℕ) (l : Li
 module _ (line : ℕ → ℕ) (c : ℕ) (h : List (Made QueueCall)) (b : List ℕ) (words : b ≡ map wordOf (buffered c h)) where
   -- a call that drops nothing
   module _ (m : Made QueueCall) (b′ : List ℕ) (z : findsFull c (buffered c h) m ≡ 0) where
-    moves : handed m ++ b′ ≡ b ++ map wordOf (enters m h) → Line line (enters m h) (waitingSends (m ∷ h)) (waitingSends h) (accepts m h) → FreesFirst line m h → Moves c line m h b′
+    moves : handed m ++ b′ ≡ b ++ map wordOf (enters m h) → Line line (enters m h) (waitingSends (m ∷ h)) (waitingSends h) (accepts m h) → EntersFirst line m h → Moves c line m h b′
     moves f t u = record {
       flow =
           f
@@ -156,20 +159,20 @@ module _ (line : ℕ → ℕ) (c : ℕ) (h : List (Made QueueCall)) (b : List �
     }
 
     -- and lets nothing enter or leave
-    pub moves-none : handed m ≡ [] → enters m h ≡ [] → accepts m h ≡ [] → waitingSends (m ∷ h) ≡ waitingSends h → keep (shown (m .answer .released)) (waitingSends h) ≡ [] → b′ ≡ b → Moves c line m h b′
-    moves-none g e a w n s = moves
+    pub moves-none : handed m ≡ [] → enters m h ≡ [] → accepts m h ≡ [] → waitingSends (m ∷ h) ≡ waitingSends h → b′ ≡ b → Moves c line m h b′
+    moves-none g e a w s = moves
         (ap (λ (l : List ℕ). l ++ b′) g ∙ s ∙ sym (append-nil b) ∙ ap (λ (l : List Sent). b ++ map wordOf l) (sym e))
         (in-turn line ((λ i. e i ++ w i) ∙ sym (append-nil (waitingSends h)) ∙ ap (λ (l : List Sent). waitingSends h ++ l) (sym a)))
-        (frees-none line m h n)
+        (none-enters line m h (ap (keep unforced) e))
 
   -- a call that is refused
   pub refused-moves : (t : ℕ) (a : Option (Act QueueCall)) (e : Err) → Moves c line (record { caller = t; asked = a; answer = say (error e) 0 [] }) h b
-  refused-moves t a e = moves-none (record { caller = t; asked = a; answer = say (error e) 0 [] }) b refl refl refl refl (waits-on (waitingSends h)) (none-freed (waitingSends h)) refl
+  refused-moves t a e = moves-none (record { caller = t; asked = a; answer = say (error e) 0 [] }) b refl refl refl refl (waits-on (waitingSends h)) refl
 
   -- a call on another object, which leaves this queue's buffer and senders as they were
   pub elsewhere-moves : (t : ℕ) (a : Answer) (x : List Waiter) (b′ : List ℕ) → map senderOf x ≡ map senderIn (waitingSends h) → map senderOf x ≡ map senderIn (waitingSends (record { caller = t; asked = none; answer = a } ∷ h)) → b′ ≡ b
       → Moves c line (record { caller = t; asked = none; answer = a }) h b′
-  elsewhere-moves t a x b′ then now s = moves-none m b′ (accepted-same 0 (a .code)) (ok-same {A = List ℕ} [] (a .code)) (ok-same {A = List Sent} [] (a .code)) (accepted-same {A = List Sent} [] (a .code)) waits (keep-rest (shown (a .released)) (waitingSends h) (ap length (sym whole) ∙ ap length waits)) s
+  elsewhere-moves t a x b′ then now s = moves-none m b′ (accepted-same 0 (a .code)) (ok-same {A = List ℕ} [] (a .code)) (ok-same {A = List Sent} [] (a .code)) (accepted-same {A = List Sent} [] (a .code)) waits s
     where
       m : Made QueueCall
       m = record { caller = t; asked = none; answer = a }
@@ -189,7 +192,7 @@ module _ (line : ℕ → ℕ) (c : ℕ) (h : List (Made QueueCall)) (b : List �
   comes : (m : Made QueueCall) (x : Sent) (b′ : List ℕ) → findsFull c (buffered c h) m ≡ 0 → enters m h ≡ x ∷ [] → accepts m h ≡ x ∷ [] → waitingSends h ≡ [] → waitingSends (m ∷ h) ≡ [] → handed m ++ b′ ≡ b ++ (x .word ∷ [])
       → Moves c line m h b′
   comes m x b′ z e a w w′ f = moves m b′ z (f ∙ ap (λ (l : List Sent). b ++ map wordOf l) (sym e)) (in-turn line ((λ i. e i ++ w′ i) ∙ sym (λ i. w i ++ a i)))
-      (frees-none line m h (ap (keep (shown (m .answer .released))) w))
+      (none-waits line m h w)
 
 -- ---- a call on the queue
 module _ (ts : List TaskEntry) (ws : List Waiter) (xs : List Queue) (t q : ℕ) (hq : q ≢ 0) (r : q ≤ length xs) (d : Distinct ws) (k : QueueOk (viewIn ws xs q)) (h : List (Made QueueCall)) where
@@ -244,7 +247,7 @@ module _ (ts : List TaskEntry) (ws : List Waiter) (xs : List Queue) (t q : ℕ) 
         moves line c h b words m _ z
         ((λ i. hd i ++ refilled b′ i) ∙ sym f ∙ sym (append-nil b) ∙ ap (λ (l : List Sent). b ++ map wordOf l) (sym e))
         (in-turn line ((λ i. e i ++ (wt ∙ ap (λ (l : List Sent). keep (notShown (m .answer .released)) l ++ []) n) i) ∙ sym (λ i. n i ++ ac i)))
-        (frees-none line m h (ap (keep (shown (m .answer .released))) n))
+        (none-waits line m h n)
 
     releases : (v : ℕ) (b′ b″ : List ℕ) (e : Waiter) (l : List Waiter) → v ∷ b″ ≡ b ++ (e .word ∷ []) → b′ ≡ b″ → sendersOf ts ws xs q ≡ e ∷ l → (p : Patience) → Moves c line (made (own (receive p)) (say ok v (freed e 0))) h b′
     releases v b′ b″ e l f g u p =
@@ -254,7 +257,7 @@ module _ (ts : List TaskEntry) (ws : List Waiter) (xs : List Queue) (t q : ℕ) 
         moves line c h b words (made (own (receive p)) (say ok v (freed e 0))) b′ refl
         (ap (λ (m : List ℕ). v ∷ m) g ∙ f ∙ ap (λ (n : ℕ). b ++ (n ∷ [])) (sym (y .word)) ∙ ap (λ (m : List Sent). b ++ map wordOf m) (sym (y .alone)))
         (first-goes line (shown (freed e 0)) (y .send) (waitingSends h) (y .alone) (y .first))
-        (subst (All (λ (u : Sent). All (λ (z : Sent). line (u .task) ≤ line (z .task)) (waitingSends h))) (sym (y .alone)) (y .urgent, tt))
+        (all-keep (NoneBefore line h) unforced (keep (shown (freed e 0)) (waitingSends h)) (subst (All (NoneBefore line h)) (sym (y .alone)) (y .urgent, tt)))
 
     replaces : (w z : ℕ) (b′ : List ℕ) → c ≤ length b → b ≡ z ∷ b′ → Moves c line (made (own (forcedSend w)) (say ok 0 [])) h (queueIn (setBuffer xs q (b′ ++ (w ∷ []))) q .buffer)
     replaces w z b′ g f =
@@ -269,7 +272,7 @@ module _ (ts : List TaskEntry) (ws : List Waiter) (xs : List Queue) (t q : ℕ) 
               ∙ ap (λ (i : ℕ). map wordOf (drop i l ++ (sentAs (length h) t w true ∷ []))) (sym n);
           one = subst (λ (i : ℕ). length (take i l) ≡ i) (sym n) (sym (length-map (take 1 l) wordOf) ∙ ap length (sym (p .0)));
           turn = ahead line refl (waits-on (waitingSends h)) refl;
-          urgent = frees-none line (made (own (forcedSend w)) (say ok 0 [])) h (none-freed (waitingSends h));
+          urgent = tt;
         }
 
     pub own-moves : (a : QueueCall) → PlaceLaw a (does ts ws xs t q a)
@@ -278,12 +281,12 @@ module _ (ts : List TaskEntry) (ws : List Waiter) (xs : List Queue) (t q : ℕ) 
       sendStores = λ p w f g. stores (sentAs (length h) t w false) g (made (own (send p w)) (say ok 0 [])) refl refl refl refl refl;
       sendFails = λ w f g. refused-moves line c h b words t (some (own (send polling w))) eTmout;
       sendWaits = λ w f g. moves line c h b words (made (own (send forever w)) (say waiting 0 [])) b refl (sym (append-nil b)) (in-turn line (ap (λ (l : List Sent). l ++ (sentAs (length h) t w false ∷ [])) (none-shown (waitingSends h))))
-          (frees-none line (made (own (send forever w)) (say waiting 0 [])) h (none-freed (waitingSends h)));
+          tt;
       receives = λ p v b′ f g. takes v b′ f g (made (own (receive p)) (say ok v [])) refl refl refl refl refl;
       receiveRefills = λ p v b′ e l f g. releases v _ (b′ ++ (e .word ∷ [])) e l (ap (λ (m : List ℕ). m ++ (e .word ∷ [])) (sym f)) (refilled (b′ ++ (e .word ∷ []))) g p;
       receivePasses = λ p e l f g. releases (e .word) b [] e l (ap (λ (m : List ℕ). m ++ (e .word ∷ [])) (sym f)) f g p;
       receiveFails = λ f g. refused-moves line c h b words t (some (own (receive polling))) eTmout;
-      receiveWaits = λ f g. moves-none line c h b words (made (own (receive forever)) (say waiting 0 [])) b refl refl refl refl (waits-on (waitingSends h)) (none-freed (waitingSends h)) refl;
+      receiveWaits = λ f g. moves-none line c h b words (made (own (receive forever)) (say waiting 0 [])) b refl refl refl refl (waits-on (waitingSends h)) refl;
       forceMisused = λ w f. refused-moves line c h b words t (some (own (forcedSend w))) eIluse;
       forcePasses = λ w e l n f. passes (sentAs (length h) t w true) f (made (own (forcedSend w)) (say ok 0 (freed e w))) (finds-room c h b words w (positive n f)) refl refl refl refl;
       forceStores = λ w f g. stores (sentAs (length h) t w true) g (made (own (forcedSend w)) (say ok 0 [])) (finds-room c h b words w (ltb-true (length b) c g)) refl refl refl refl;
@@ -301,5 +304,5 @@ module _ (ts : List TaskEntry) (ws : List Waiter) (xs : List Queue) (t q : ℕ) 
     -- a refer and a set-vector move nothing
     pub act-moves : (a : Act QueueCall) → Moves c line (made a (actOn room ts ws xs t q a .answer)) h (queueIn (actOn room ts ws xs t q a .records) q .buffer)
     act-moves (own a) = own-moves a
-    act-moves refer = moves-none line c h b words (made refer (tells (told ts ws xs q))) b refl refl refl refl (waits-on (waitingSends h)) (none-freed (waitingSends h)) refl
-    act-moves (setVector v) = moves-none line c h b words (made (setVector v) (say ok 0 [])) _ refl refl refl refl (waits-on (waitingSends h)) (none-freed (waitingSends h)) (at-put-keep (λ (x : Queue). x .buffer) noQueue xs q q _ refl)
+    act-moves refer = moves-none line c h b words (made refer (tells (told ts ws xs q))) b refl refl refl refl (waits-on (waitingSends h)) refl
+    act-moves (setVector v) = moves-none line c h b words (made (setVector v) (say ok 0 [])) _ refl refl refl refl (waits-on (waitingSends h)) (at-put-keep (λ (x : Queue). x .buffer) noQueue xs q q _ refl)

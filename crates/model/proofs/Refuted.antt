@@ -491,3 +491,7 @@ urgent-behind-buffer d = let e : 2 ≤ 1 = d .inLines .0 .0 in omega arith
 
 pub less-urgent-refills : Roomy (takes 700 1 ∷ linesUp 2 702 ∷ linesUp 1 701 ∷ buffered ∷ []) (701 ∷ []) (sender 2 702 ∷ []) → ⊥
 less-urgent-refills d = let e : 2 ≤ 1 = d .urgentFirst .0 .0 .1 .0 in omega arith
+
+-- a less urgent one enters by its own E_OK while a more urgent one waits: a receive hands out 700 and releases nobody, and then there is room
+pub less-urgent-enters : Roomy (record { caller = 1; asked = some (own (send polling 701)); answer = say ok 0 [] } ∷ record { caller = 4; asked = some (own (receive polling)); answer = say ok 700 [] } ∷ linesUp 2 702 ∷ buffered ∷ []) (701 ∷ []) (sender 2 702 ∷ []) → ⊥
+less-urgent-enters d = let e : 2 ≤ 1 = d .urgentFirst .0 .0 .0 in omega arith

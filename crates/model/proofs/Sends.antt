@@ -15,7 +15,7 @@ use Rattle.model.specs.Queues.{QueueCall, send, receive, forcedSend}
 use Rattle.model.specs.History.{Made}
 use Rattle.model.specs.Sends.{Sent, sendOf, wordOf, unforced, times, Before, Ascending, accepts, accepted, acceptedOf, waitingSends, withdrawn, enters, entered, handed, fullIn, findsFull, present, buffered, drops, dropped, hands, handedOut, leaves}
 use Rattle.model.specs.State.{Waiter}
-use Rattle.model.specs.QueueClaims.{Sender, senderOf, senderIn, wordsIn, HandsFirst, DropsOne, FreesFirst}
+use Rattle.model.specs.QueueClaims.{Sender, senderOf, senderIn, wordsIn, HandsFirst, DropsOne, EntersFirst}
 use Rattle.model.proofs.Tests.{holds, fails, le-tells}
 use Rattle.model.proofs.Lists.{eq-of, ne-of, eqb-same, eqb-no, keep-append, keep-comm, append-cancel, map-append, map-parts, all-keep, all-append, all-weaker}
 
@@ -260,7 +260,7 @@ module _ (c : ℕ) (line : ℕ → ℕ) where
     pub flow : handed m ++ b′ ≡ map wordOf (present c (buffered c h) m h)
     pub one : DropsOne c m h
     pub turn : Line line (enters m h) (waitingSends (m ∷ h)) (waitingSends h) (accepts m h)
-    pub urgent : FreesFirst line m h
+    pub urgent : EntersFirst line m h
 
   -- ---- what holds after the calls h, which left the buffer b
   pub record Held (h : List (Made QueueCall)) (b : List ℕ) : Type 0 where
@@ -268,7 +268,7 @@ module _ (c : ℕ) (line : ℕ → ℕ) where
     pub handedAre : Each (HandsFirst c) h
     pub oneEach : Each (DropsOne c) h
     pub counted : (k : ℕ) → times k (entered h) + times k (waitingSends h) ≡ times k (accepted h)
-    pub urgentFirst : Each (FreesFirst line) h
+    pub urgentFirst : Each (EntersFirst line) h
     pub kept : (n : ℕ) → keep (inLine line n) (keep unforced (entered h ++ waitingSends h)) ≡ keep (inLine line n) (keep unforced (accepted h))
 
   pub none-yet : Held [] []

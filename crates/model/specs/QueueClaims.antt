@@ -15,7 +15,7 @@ use Rattle.model.specs.Acts.{Act, own, refer, setVector}
 use Rattle.model.specs.Queues.{QueueCall, send, receive, forcedSend}
 use Rattle.model.specs.Calls.{Op, onSemaphore, onQueue}
 use Rattle.model.specs.History.{History, Made, seenBy, askedIf, ofAsked, vectorSince}
-use Rattle.model.specs.Sends.{Sent, wordOf, unforced, times, Ascending, accepts, acceptedOf, waitingSends, freedBy, withdrawn, entered, handed, findsFull, buffered, drops, dropped, hands, handedOut, leaves}
+use Rattle.model.specs.Sends.{Sent, wordOf, unforced, times, Ascending, accepts, acceptedOf, waitingSends, withdrawn, enters, entered, handed, findsFull, buffered, drops, dropped, hands, handedOut, leaves}
 
 -- ---- a history as queue q sees it
 abbrev pub askedOf : ℕ → Op → Option (Act QueueCall)
@@ -108,9 +108,13 @@ HandsFirst capacity m h = handed m ≡ map wordOf (hands capacity m h)
 abbrev pub DropsOne : ℕ → Made QueueCall → List (Made QueueCall) → Type 0
 DropsOne capacity m h = length (drops capacity m h) ≡ findsFull capacity (buffered capacity h) m
 
--- of the sends that wait, a call lets go on those alone than which none is more urgent
-abbrev pub FreesFirst : (ℕ → ℕ) → Made QueueCall → List (Made QueueCall) → Type 0
-FreesFirst line m h = All (λ (y : Sent). All (λ (z : Sent). line (y .task) ≤ line (z .task)) (waitingSends h)) (freedBy m h)
+-- of the sends that wait after the calls h none is more urgent
+abbrev pub NoneBefore : (ℕ → ℕ) → List (Made QueueCall) → Sent → Type 0
+NoneBefore line h y = All (λ (z : Sent). line (y .task) ≤ line (z .task)) (waitingSends h)
+
+-- of the sends that are not forced, those alone enter or pass with a call before which no more urgent one waits
+abbrev pub EntersFirst : (ℕ → ℕ) → Made QueueCall → List (Made QueueCall) → Type 0
+EntersFirst line m h = All (NoneBefore line h) (keep unforced (enters m h))
 
 -- ---- demand 3, of the calls h (the newest first) as a queue saw them: the table gave it as x and each task its domain and priority, and they left it with this
 -- buffer and these senders, first to last. Its order is request T-05's; with which call a word enters or passes is said by `enters` (Sends)
@@ -136,5 +140,5 @@ pub record Carried (domain : ℕ → ℤ) (priority : ℕ → ℕ) (x : Queue) (
   -- in each line in call order, a more urgent line before a less urgent one
   pub sendersAre : (k : ℕ) → keep (λ (y : Sender). eqb k (lineOf priority x (y .task))) (map senderOf senders) ≡ keep (λ (y : Sender). eqb k (lineOf priority x (y .task))) (map senderIn (waitingSends h))
   pub inLines : Rising (map (λ (e : Waiter). lineOf priority x (e .task)) senders)
-  -- who waits no longer was not less urgent than any who waited
-  pub urgentFirst : Each (FreesFirst (lineOf priority x)) h
+  -- no send that is not forced enters or passes while a more urgent one waits
+  pub urgentFirst : Each (EntersFirst (lineOf priority x)) h

@@ -1,17 +1,19 @@
 -- Who calls, and the task with a number. Assumes nothing.
 use Prim.Native.Nat.{ℕ, suc, _-_, _≤_, _<_}
 use native.Mathlib.Omega.{arith}
-use mathlib.Core.Path.{_≡_, sym, ap, _∙_}
+use mathlib.Core.Path.{_≡_, refl, sym, ap, _∙_}
+use mathlib.Core.List.{List, _∷_, _++_}
 use mathlib.Core.Logic.{_≢_}
 use mathlib.Core.Bool.{true, false, not, _&&_, and-false}
 use lib.Dec.{eqb, leb}
 use lib.IntN.{ℤ}
-use lib.ListN.{length, getD}
+use lib.ListN.{length, getD, length-append}
 use borrow.Author.Tests.{le-leb, lt-leb, ne-eqb}
 use Rattle.access.specs.Domains.{ordinalOf}
 use Rattle.model.specs.Lists.{at}
 use Rattle.model.specs.Waits.{absent}
-use Rattle.model.specs.State.{no, noTask as noEntry}
+use Rattle.model.specs.State.{TaskEntry, Waiter, no, noTask as noEntry}
+use Rattle.model.proofs.Places.{nth}
 use Rattle.model.proofs.Ordinals.{outside, within}
 use Rattle.tasks.specs.declared.task.Task.{Task}
 use Rattle.tasks.specs.declared.state.Tasks.{Tasks}
@@ -59,3 +61,9 @@ module _ {t : Tasks} (h : Held t) (n : ℕ) where
       let i : n ≡ suc (n - 1) = omega arith in
       entry-seen h (n - 1) (omega arith)
       ∙ sym (rw (ne-eqb n 0 z, le-leb n (length (entriesOf t)) (omega arith)) (λ j. taskAs (at noEntry (entriesOf t) (i j)) (waitFor (i j) (waitsOf t))))
+
+-- ---- what is shown of a task, whatever its number: its entry's domain and priority
+pub shown-entry : (l m : List TaskEntry) (x : TaskEntry) (ws : List Waiter) → (taskOf (l ++ (x ∷ m)) ws (suc (length l)) .domain ≡ x .domain) × (taskOf (l ++ (x ∷ m)) ws (suc (length l)) .priority ≡ x .priority)
+shown-entry l m x ws =
+    let c = length-append l (x ∷ m) in
+    rw (ne-eqb (suc (length l)) 0 (λ e. omega (arith, e)), le-leb (suc (length l)) (length (l ++ (x ∷ m))) (omega (arith, c)), nth noEntry x l m) (refl, refl)
