@@ -11,6 +11,7 @@ uint32_t timing_wait_send(uint32_t pairs, int32_t waiter, int32_t task, int32_t 
 uint32_t timing_force_receive(uint32_t pairs, int32_t task, int32_t id);
 uint32_t timing_force_drop(uint32_t rounds, int32_t task, int32_t id);
 uint32_t timing_refer_set_queue(uint32_t pairs, int32_t task, int32_t id);
+uint32_t timing_enter_leave(uint32_t pairs, int32_t task);
 uint32_t timing_signal_wait(uint32_t rounds, uint32_t attribute, int32_t task, const uint32_t *priorities,
                             size_t priorities_len);
 uint32_t timing_receive_send(uint32_t rounds, uint32_t attribute, uint32_t capacity, int32_t task,
@@ -48,6 +49,7 @@ static void send_receive(uint32_t pairs) { timing_send_receive(pairs, 1, 1); }
 static void wait_send(uint32_t pairs) { timing_wait_send(pairs, 4, 1, 1); }
 static void force_receive(uint32_t pairs) { timing_force_receive(pairs, 1, 1); }
 static void refer_set_queue(uint32_t pairs) { timing_refer_set_queue(pairs, 3, 1); }
+static void enter_leave(uint32_t pairs) { timing_enter_leave(pairs, 1); }
 // Its first two rounds fill the buffer.
 static void force_drop(uint32_t rounds) { timing_force_drop(rounds + 2, 1, 1); }
 static void inside(uint32_t rounds) { verdicts(rounds, 16); }
@@ -111,6 +113,7 @@ int main(void) {
     count("forced send, receive", force_receive, 1);
     count("one forced send, full", force_drop, 1);
     count("refer, set-vector: queue", refer_set_queue, 1);
+    count("enter, leave", enter_leave, 1);
     count("verdict, in its region", inside, REGIONS);
     count("verdict, into the next", into_next, REGIONS);
     count("list: wait to receive, send", listed, 1);

@@ -10,21 +10,23 @@ const MOST_CALLS: u32 = 400;
 /// What the answers hold before a run, so that a word written too far shows.
 const FILLER: u32 = 0xA5A5_A5A5;
 
-/// Those that never wait.
-const QUICK_FUNCTIONS: [u32; 9] = [SIG_SEM, POL_SEM, REF_SEM, SAC_SEM, PSND_DTQ, PRCV_DTQ, REF_DTQ, SAC_DTQ, FSND_DTQ];
+/// Those that never wait. Leaving is drawn twice as often as entering, so that tasks are outside about as often as inside.
+const QUICK_FUNCTIONS: [u32; 12] =
+    [SIG_SEM, POL_SEM, REF_SEM, SAC_SEM, PSND_DTQ, PRCV_DTQ, REF_DTQ, SAC_DTQ, FSND_DTQ, CAL_SVC, RET_SVC, RET_SVC];
 /// Signals and sends twice as often, for what waits.
-const ALL_FUNCTIONS: [u32; 14] = [
+const ALL_FUNCTIONS: [u32; 17] = [
     SIG_SEM, SIG_SEM, POL_SEM, WAI_SEM, REF_SEM, SAC_SEM, PSND_DTQ, PSND_DTQ, SND_DTQ, PRCV_DTQ, RCV_DTQ, REF_DTQ,
-    SAC_DTQ, FSND_DTQ,
+    SAC_DTQ, FSND_DTQ, CAL_SVC, RET_SVC, RET_SVC,
 ];
 /// Some of them are good but for bits above the low 16.
-const WRONG_FUNCTIONS: [u32; 7] = [0, 13, 0x1_0002, 0x1_0006, 0x1_000C, 0x8000_0000, u32::MAX];
+const WRONG_FUNCTIONS: [u32; 9] = [0, 15, 0x1_0002, 0x1_0006, 0x1_000C, 0x1_000D, 0x1_000E, 0x8000_0000, u32::MAX];
+const TASKS: [i32; 4] = [1, 2, 3, 4];
 const WRONG_CALLERS: [i32; 9] = [-1, 0, 5, 255, 256, 0x1_0003, i32::MIN, i32::MIN + 1, i32::MAX];
 const WRONG_OBJECTS: [i32; 12] = [0, -1, 2, 3, 16, 17, 64, 65, 0x1_0001, i32::MIN, i32::MIN + 1, i32::MAX];
 
-const CODES: [Er; 10] = [WAITING, E_OK, E_RSFN, E_ID, E_CTX, E_OACV, E_ILUSE, E_NOEXS, E_QOVR, E_TMOUT];
-const NAMES: [&str; 10] =
-    ["waiting", "E_OK", "E_RSFN", "E_ID", "E_CTX", "E_OACV", "E_ILUSE", "E_NOEXS", "E_QOVR", "E_TMOUT"];
+const CODES: [Er; 11] = [WAITING, E_OK, E_SYS, E_RSFN, E_ID, E_CTX, E_OACV, E_ILUSE, E_NOEXS, E_QOVR, E_TMOUT];
+const NAMES: [&str; 11] =
+    ["waiting", "E_OK", "E_SYS", "E_RSFN", "E_ID", "E_CTX", "E_OACV", "E_ILUSE", "E_NOEXS", "E_QOVR", "E_TMOUT"];
 
 /// Marsaglia's xorshift: quick, and the same lists on every machine.
 pub struct Random(u64);
@@ -62,15 +64,13 @@ impl Random {
     }
 }
 
-/// Good numbers for the most part, else waits, releases and full buffers would hardly come about.
-fn random_call(random: &mut Random, ready: &[i32]) -> [u32; CALL_WORDS] {
-    let caller = if ready.is_empty() { 1 } else { random.pick(ready) };
-    let caller = random.mostly(caller, 30, &[1, 2, 3, 4]);
-    let caller = random.mostly(caller, 40, &WRONG_CALLERS);
-    // The last ready task seldom waits, as nobody would release it.
-    let lonely = ready.len() < 2 && !random.one_in(32);
-    let function = random.pick(if lonely { &QUICK_FUNCTIONS[..] } else { &ALL_FUNCTIONS });
-    let function = random.mostly(function, 60, &WRONG_FUNCTIONS);
+/// Where a code stands in both lists.
+fn place_of(code: Er) -> usize {
+    CODES.iter().position(|&known| known == code).expect("a call's code")
+}
+
+/// A call of a caller, with numbers in all other words, whether it uses them or not.
+fn call_by(random: &mut Random, function: u32, caller: i32) -> [u32; CALL_WORDS] {
     let object = if function < PSND_DTQ { 1 } else { random.pick(&[1, 1, 2]) };
     let object = random.mostly(object, 30, &WRONG_OBJECTS);
     let mut call = [function, caller as u32, object as u32, random.next(), 0, 0, 0, 0];
@@ -85,19 +85,65 @@ fn random_call(random: &mut Random, ready: &[i32]) -> [u32; CALL_WORDS] {
     call
 }
 
-/// The list is made along a run of its own, which tells who is ready, and what each of its forced sends meets.
-fn random_calls(random: &mut Random) -> (Vec<u32>, Vec<Option<&'static str>>) {
+/// Good numbers for the most part, else waits, releases and full buffers would hardly come about.
+fn random_call(random: &mut Random, ready: &[i32]) -> [u32; CALL_WORDS] {
+    // The last ready task seldom waits, as nobody would release it.
+    let lonely = ready.len() < 2 && !random.one_in(32);
+    let function = random.pick(if lonely { &QUICK_FUNCTIONS[..] } else { &ALL_FUNCTIONS });
+    let caller = if ready.is_empty() { 1 } else { random.pick(ready) };
+    // Who waits tries to enter and to leave, too.
+    let odds = if [CAL_SVC, RET_SVC].contains(&function) { 4 } else { 30 };
+    let caller = random.mostly(caller, odds, &TASKS);
+    let caller = random.mostly(caller, 40, &WRONG_CALLERS);
+    let function = random.mostly(function, 60, &WRONG_FUNCTIONS);
+    call_by(random, function, caller)
+}
+
+/// What some lists begin with: a task enters about as often as it may, or more often, and leaves some of the levels, or all and more.
+fn climb(random: &mut Random) -> Vec<[u32; CALL_WORDS]> {
+    if !random.one_in(8) {
+        return Vec::new();
+    }
+    let (task, enters) = (random.pick(&TASKS), random.pick(&[253, 254, 255, 256, 300]));
+    let some = random.below(enters);
+    let leaves = random.pick(&[0, 0, some, enters + 1]);
+    let functions = [CAL_SVC].repeat(enters).into_iter().chain([RET_SVC].repeat(leaves));
+    functions.map(|function| call_by(random, function, task)).collect()
+}
+
+/// A kind of call, and what one of this kind came upon.
+type Met = (&'static str, &'static str);
+
+/// A forced send that passed its checks at its queue, entering and leaving at their caller; and what only the caller's level admitted.
+fn meets(before: &Kernel, call: &[u32], code: Er) -> [Option<Met>; 2] {
+    let (caller, object) = (call[1] as i32, call[2] as i32);
+    let met = match call[0] {
+        CAL_SVC => Some(("entering", before.service_meets(caller))),
+        RET_SVC => Some(("leaving", before.service_meets(caller))),
+        FSND_DTQ if [E_OK, E_ILUSE].contains(&code) => Some(("forced send", before.forced_meets(object))),
+        _ => None,
+    };
+    let lifted = before.lifts(caller, |kernel| match make(kernel, call)[0] as i32 {
+        code @ ..0 => Err(code),
+        _ => Ok(()),
+    });
+    [met, lifted.then(|| ("admitted only inside", NAMES[place_of(code)]))]
+}
+
+/// The list is made along a run of its own, which tells who is ready, and what each of its calls meets.
+fn random_calls(random: &mut Random) -> (Vec<u32>, Vec<[Option<Met>; 2]>) {
     let mut kernel = Kernel::EMPTY;
     bench_table(&mut kernel);
-    let mut ready = vec![1, 2, 3, 4];
+    let mut ready = TASKS.to_vec();
     let (mut calls, mut met) = (Vec::new(), Vec::new());
-    let mut left = random.below(MOST_CALLS as usize + 1);
+    let climb = climb(random);
+    let mut left = climb.len() + random.below(MOST_CALLS as usize + 1);
+    let mut climb = climb.into_iter();
     while left > 0 {
-        let call = random_call(random, &ready);
-        let meets = kernel.forced_meets(call[2] as i32);
+        let call = climb.next().unwrap_or_else(|| random_call(random, &ready));
+        let before = kernel.clone();
         let answer = make(&mut kernel, &call);
-        let passed = call[0] == FSND_DTQ && [E_OK, E_ILUSE].contains(&(answer[0] as i32));
-        met.push(passed.then_some(meets));
+        met.push(meets(&before, &call, answer[0] as i32));
         calls.extend(call);
         if answer[0] as i32 == WAITING {
             ready.retain(|&task| task != call[1] as i32);
@@ -132,7 +178,7 @@ pub fn compare() {
     let mut random = Random(SEED);
     let mut codes = [0; CODES.len()];
     let (mut compared, mut releases, mut short) = (0, 0, 0);
-    let mut forced = BTreeMap::new();
+    let mut all_met = BTreeMap::new();
     for list in 0..LISTS {
         let (calls, met) = random_calls(&mut random);
         let mut plain_answers = vec![FILLER; random_room(&mut random, &calls)];
@@ -145,11 +191,11 @@ pub fn compare() {
         short += u32::from(answered < calls.len().div_ceil(CALL_WORDS));
         for answer in plain_answers.chunks(ANSWER_WORDS).take(answered) {
             releases += u32::from(answer[2] != 0);
-            codes[CODES.iter().position(|&code| code == answer[0] as i32).expect("a call's code")] += 1;
+            codes[place_of(answer[0] as i32)] += 1;
         }
         // The last call may be cut short, and is none then.
-        for met in met.into_iter().take(answered.min(calls.len() / CALL_WORDS)).flatten() {
-            *forced.entry(met).or_insert(0) += 1;
+        for met in met.into_iter().take(answered.min(calls.len() / CALL_WORDS)).flatten().flatten() {
+            *all_met.entry(met).or_insert(0) += 1;
         }
     }
     println!("Comparison, seed {SEED:#x}: {compared} calls in {LISTS} lists, every word of the answers alike.");
@@ -158,5 +204,8 @@ pub fn compare() {
     for ((name, code), count) in NAMES.iter().zip(CODES).zip(codes) {
         println!("  {name:<8} {code:>4} {count:>8}");
     }
-    println!("What forced sends met: {forced:?}.");
+    println!("What calls met:");
+    for ((kind, what), count) in all_met {
+        println!("  {kind:<21} {what:<26} {count:>8}");
+    }
 }

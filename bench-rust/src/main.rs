@@ -54,7 +54,7 @@ fn starts(size: u32) -> Asked {
     Asked::reading(plain_runs::starts(), size)
 }
 
-const WORKLOADS: [Workload; 13] = [
+const WORKLOADS: [Workload; 14] = [
     pair("signal, poll", USERS, ours::signal_poll, plain_runs::signal_poll),
     pair("wait, signal", USERS, ours::wait_signal, plain_runs::wait_signal),
     pair("refer, set-vector: semaphore", KERNEL, ours::refer_set_semaphore, plain_runs::refer_set_semaphore),
@@ -63,6 +63,7 @@ const WORKLOADS: [Workload; 13] = [
     pair("forced send, receive", USERS, ours::force_receive, plain_runs::force_receive),
     single("forced send, full", USERS, ours::force_drop, plain_runs::force_drop),
     pair("refer, set-vector: queue", KERNEL, ours::refer_set_queue, plain_runs::refer_set_queue),
+    pair("enter, leave", USERS, ours::enter_leave, plain_runs::enter_leave),
     verdicts(
         "verdict, in its region",
         |rounds, _| ours::verdict(rounds, &starts(INSIDE)),

@@ -13,6 +13,7 @@ mod archive {
         pub fn timing_force_receive(pairs: u32, task: i32, id: i32) -> u32;
         pub fn timing_force_drop(rounds: u32, task: i32, id: i32) -> u32;
         pub fn timing_refer_set_queue(pairs: u32, task: i32, id: i32) -> u32;
+        pub fn timing_enter_leave(pairs: u32, task: i32) -> u32;
         pub fn timing_send_each(
             rounds: u32,
             capacity: u32,
@@ -113,6 +114,10 @@ pub fn force_drop(rounds: u32, who: Who) -> u32 {
 
 pub fn refer_set_queue(pairs: u32, who: Who) -> u32 {
     unsafe { archive::timing_refer_set_queue(pairs, who.task, who.id) }
+}
+
+pub fn enter_leave(pairs: u32, who: Who) -> u32 {
+    unsafe { archive::timing_enter_leave(pairs, who.task) }
 }
 
 pub fn send_each(rounds: u32, each: &Each) -> u32 {

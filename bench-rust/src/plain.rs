@@ -10,6 +10,7 @@ pub type Er = i32;
 pub type Check = Result<(), Er>;
 
 pub const E_OK: Er = 0;
+pub const E_SYS: Er = -5;
 pub const E_RSATR: Er = -11;
 pub const E_PAR: Er = -17;
 pub const E_ID: Er = -18;
@@ -36,6 +37,8 @@ pub const MAX_UNIT: u32 = 65_536;
 /// The most urgent priority of a task, and the least urgent one.
 pub const MIN_PRIORITY: u32 = 1;
 pub const MAX_PRIORITY: u32 = 16;
+/// The highest level of extended service calls.
+pub const MAX_LEVEL: u8 = 255;
 
 pub const TDOM_KERNEL: i32 = -1;
 pub const TDOM_NONE: i32 = -2;
@@ -180,9 +183,22 @@ struct Task {
     next: u8,
     /// 1 is the most urgent.
     priority: u8,
+    /// How many extended service calls it is inside.
+    level: u8,
 }
 
-const NO_TASK: Task = Task { domain: 0, word: 0, waiting: false, next: 0, priority: 0 };
+const NO_TASK: Task = Task { domain: 0, word: 0, waiting: false, next: 0, priority: 0, level: 0 };
+
+impl Task {
+    /// The domain that it calls as: inside an extended service call the kernel's.
+    fn running_domain(&self) -> i32 {
+        if self.level > 0 {
+            TDOM_KERNEL
+        } else {
+            self.domain
+        }
+    }
+}
 
 /// Waiting tasks linked through their records: a task waits in one place only.
 #[derive(Clone, Copy)]
@@ -439,23 +455,29 @@ impl Kernel {
 
 /// The calls.
 impl Kernel {
-    /// The checks before every call; gives the caller's and the object's index.
-    fn enter<T: Copy, const N: usize>(
+    /// The caller's index: a ready task of a closed table.
+    fn caller(&self, caller: i32) -> Result<usize, Er> {
+        let task = self.tasks.index(caller).map_err(|_| E_CTX)?;
+        ensure(self.closed && !self.tasks.entries[task].waiting, E_CTX)?;
+        Ok(task)
+    }
+
+    /// The checks before every call on an object; gives the caller's and the object's index.
+    fn checked<T: Copy, const N: usize>(
         &self,
         caller: i32,
         kind: &Table<T, N>,
         id: i32,
         pattern: impl Fn(&T) -> u32,
     ) -> Result<(usize, usize), Er> {
-        let task = self.tasks.index(caller).map_err(|_| E_CTX)?;
-        ensure(self.closed && !self.tasks.entries[task].waiting, E_CTX)?;
+        let task = self.caller(caller)?;
         let object = kind.index(id)?;
-        ensure(admits(pattern(&kind.entries[object]), self.tasks.entries[task].domain), E_OACV)?;
+        ensure(admits(pattern(&kind.entries[object]), self.tasks.entries[task].running_domain()), E_OACV)?;
         Ok((task, object))
     }
 
     pub fn sig_sem(&mut self, caller: i32, semid: i32) -> Result<Done, Er> {
-        let (_, sem) = self.enter(caller, &self.semaphores, semid, |s| s.vector.normal1)?;
+        let (_, sem) = self.checked(caller, &self.semaphores, semid, |s| s.vector.normal1)?;
         let sem = &mut self.semaphores.entries[sem];
         if let Some(waiter) = sem.waiters.release(&mut self.tasks.entries) {
             return Ok(Done::releasing(waiter, 0));
@@ -466,7 +488,7 @@ impl Kernel {
     }
 
     fn take(&mut self, caller: i32, semid: i32, patient: bool) -> Result<Done, Er> {
-        let (task, sem) = self.enter(caller, &self.semaphores, semid, |s| s.vector.normal2)?;
+        let (task, sem) = self.checked(caller, &self.semaphores, semid, |s| s.vector.normal2)?;
         let sem = &mut self.semaphores.entries[sem];
         if sem.count > 0 {
             sem.count -= 1;
@@ -486,19 +508,19 @@ impl Kernel {
     }
 
     pub fn ref_sem(&self, caller: i32, semid: i32) -> Result<Referred, Er> {
-        let (_, sem) = self.enter(caller, &self.semaphores, semid, |s| s.vector.reference)?;
+        let (_, sem) = self.checked(caller, &self.semaphores, semid, |s| s.vector.reference)?;
         let Semaphore { waiters, count, vector, .. } = self.semaphores.entries[sem];
         Ok(Referred { first_waiter: waiters.first.into(), first_receiver: 0, count, vector })
     }
 
     pub fn sac_sem(&mut self, caller: i32, semid: i32, vector: Vector) -> Result<Done, Er> {
-        let (_, sem) = self.enter(caller, &self.semaphores, semid, |s| s.vector.management)?;
+        let (_, sem) = self.checked(caller, &self.semaphores, semid, |s| s.vector.management)?;
         self.semaphores.entries[sem].vector = vector;
         Ok(Done::OK)
     }
 
     fn send(&mut self, caller: i32, dtqid: i32, word: u32, patient: bool) -> Result<Done, Er> {
-        let (task, queue) = self.enter(caller, &self.queues, dtqid, |q| q.vector.normal1)?;
+        let (task, queue) = self.checked(caller, &self.queues, dtqid, |q| q.vector.normal1)?;
         let queue = &mut self.queues.entries[queue];
         if let Some(receiver) = queue.receivers.release(&mut self.tasks.entries) {
             return Ok(Done::releasing(receiver, word));
@@ -523,7 +545,7 @@ impl Kernel {
 
     /// Forced send never waits: a full buffer loses its oldest word, whoever else waits to send.
     pub fn fsnd_dtq(&mut self, caller: i32, dtqid: i32, word: u32) -> Result<Done, Er> {
-        let (_, queue) = self.enter(caller, &self.queues, dtqid, |q| q.vector.normal1)?;
+        let (_, queue) = self.checked(caller, &self.queues, dtqid, |q| q.vector.normal1)?;
         let queue = &mut self.queues.entries[queue];
         ensure(queue.capacity > 0, E_ILUSE)?;
         if let Some(receiver) = queue.receivers.release(&mut self.tasks.entries) {
@@ -551,7 +573,7 @@ impl Kernel {
     }
 
     fn receive(&mut self, caller: i32, dtqid: i32, patient: bool) -> Result<Done, Er> {
-        let (task, queue) = self.enter(caller, &self.queues, dtqid, |q| q.vector.normal2)?;
+        let (task, queue) = self.checked(caller, &self.queues, dtqid, |q| q.vector.normal2)?;
         let queue = &mut self.queues.entries[queue];
         let oldest = (queue.count > 0).then(|| queue.pop(&self.words));
         if let Some(sender) = queue.senders.release(&mut self.tasks.entries) {
@@ -579,15 +601,48 @@ impl Kernel {
     }
 
     pub fn ref_dtq(&self, caller: i32, dtqid: i32) -> Result<Referred, Er> {
-        let (_, queue) = self.enter(caller, &self.queues, dtqid, |q| q.vector.reference)?;
+        let (_, queue) = self.checked(caller, &self.queues, dtqid, |q| q.vector.reference)?;
         let Queue { senders, receivers, count, vector, .. } = self.queues.entries[queue];
         Ok(Referred { first_waiter: senders.first.into(), first_receiver: receivers.first.into(), count, vector })
     }
 
     pub fn sac_dtq(&mut self, caller: i32, dtqid: i32, vector: Vector) -> Result<Done, Er> {
-        let (_, queue) = self.enter(caller, &self.queues, dtqid, |q| q.vector.management)?;
+        let (_, queue) = self.checked(caller, &self.queues, dtqid, |q| q.vector.management)?;
         self.queues.entries[queue].vector = vector;
         Ok(Done::OK)
+    }
+
+    /// Enters an extended service call: until it is left, the caller counts as the kernel domain.
+    pub fn cal_svc(&mut self, caller: i32) -> Result<Done, Er> {
+        let task = self.caller(caller)?;
+        let level = &mut self.tasks.entries[task].level;
+        ensure(*level < MAX_LEVEL, E_SYS)?;
+        *level += 1;
+        Ok(Done::OK)
+    }
+
+    /// Leaves the extended service call that was entered last.
+    pub fn ret_svc(&mut self, caller: i32) -> Result<Done, Er> {
+        let task = self.caller(caller)?;
+        let level = &mut self.tasks.entries[task].level;
+        ensure(*level > 0, E_CTX)?;
+        *level -= 1;
+        Ok(Done::OK)
+    }
+
+    /// What entering or leaving meets at its caller: no call, only to count what random calls came upon.
+    pub fn service_meets(&self, caller: i32) -> &'static str {
+        let Ok(task) = self.tasks.index(caller) else { return "no task" };
+        let Task { waiting, level, .. } = self.tasks.entries[task];
+        match (self.closed, waiting, level) {
+            (false, ..) => "open table",
+            (_, true, 0) => "waits, level 0",
+            (_, true, MAX_LEVEL) => "waits, level 255",
+            (_, true, _) => "waits inside",
+            (.., 0) => "level 0",
+            (.., MAX_LEVEL) => "level 255",
+            _ => "inside",
+        }
     }
 
     /// The index of the region that holds an address, by a walk from the first.

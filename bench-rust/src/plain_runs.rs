@@ -19,6 +19,8 @@ pub const RCV_DTQ: u32 = 9;
 pub const REF_DTQ: u32 = 10;
 pub const SAC_DTQ: u32 = 11;
 pub const FSND_DTQ: u32 = 12;
+pub const CAL_SVC: u32 = 13;
+pub const RET_SVC: u32 = 14;
 
 pub const CALL_WORDS: usize = 8;
 pub const ANSWER_WORDS: usize = 11;
@@ -169,6 +171,20 @@ pub fn refer_set_queue(pairs: u32, who: Who) -> u32 {
         sum = sum.wrapping_add(vector.normal1);
     }
     sum
+}
+
+/// A task enters an extended service call and leaves it.
+pub fn enter_leave(pairs: u32, who: Who) -> u32 {
+    let mut kernel = Kernel::EMPTY;
+    bench_table(&mut kernel);
+    let mut good = 0;
+    for _ in 0..pairs {
+        let (kernel, _, task, _) = unknown(&mut kernel, who);
+        let entered = kernel.cal_svc(task);
+        let left = kernel.ret_svc(task);
+        good += u32::from(entered.is_ok()) + u32::from(left.is_ok());
+    }
+    good
 }
 
 /// Queues of the largest capacity, as many as there can be.
@@ -406,6 +422,8 @@ pub fn make(kernel: &mut Kernel, call: &[u32]) -> Answer {
         REF_DTQ => kernel.ref_dtq(task, id).map(encode_referred),
         SAC_DTQ => kernel.sac_dtq(task, id, vector).map(encode),
         FSND_DTQ => kernel.fsnd_dtq(task, id, word).map(encode),
+        CAL_SVC => kernel.cal_svc(task).map(encode),
+        RET_SVC => kernel.ret_svc(task).map(encode),
         _ => Err(E_RSFN),
     };
     answer.unwrap_or_else(refused)

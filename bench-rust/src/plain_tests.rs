@@ -1,5 +1,5 @@
-//! The bench runs of document 01, with the limits of request T-07 and the units of T-06, forced send (T-05) and priority
-//! order (T-10), on the ordinary kernel.
+//! The bench runs of document 01, with the limits of request T-07 and the units of T-06, forced send (T-05), priority
+//! order (T-10) and extended service calls (T-03), on the ordinary kernel.
 
 use crate::plain::*;
 use crate::plain_runs::bench_table;
@@ -221,8 +221,11 @@ fn priorities() {
     assert_eq!([1, 16].map(|priority| k.add_task(1, priority)), [Ok(()); 2]);
     assert_eq!([TDOM_NONE, 0, 3].map(|domain| k.add_task(domain, 0)), [Err(E_ID); 3]);
     assert_eq!([k.add_task(TDOM_KERNEL, 0), k.add_task(TDOM_KERNEL, 16)], [Err(E_PAR), Ok(())]);
-    let dump =
-        ["task 1 domain=1 ready priority=1", "task 2 domain=1 ready priority=16", "task 3 domain=-1 ready priority=16"];
+    let dump = [
+        "task 1 domain=1 ready level=0 priority=1",
+        "task 2 domain=1 ready level=0 priority=16",
+        "task 3 domain=-1 ready level=0 priority=16",
+    ];
     assert_eq!(k.dump()[1..], dump.map(|line| format!("  {line}")));
     while k.add_task(2, 7).is_ok() {}
     assert_eq!(k.ready().len(), MAX_TASKS);
@@ -386,4 +389,147 @@ fn all_but_one_wait() {
             assert_eq!(received(&mut k), order.iter().map(|&task| (task, task)).collect::<Vec<_>>());
         }
     }
+}
+
+/// Up to the highest level and down again, whatever the domain; a refusal changes nothing.
+#[test]
+fn levels() {
+    let mut k = Kernel::EMPTY;
+    bench_table(&mut k);
+    let start = k.dump();
+    for task in [2, 3] {
+        assert_eq!(k.ret_svc(task), Err(E_CTX));
+        for level in 1..=MAX_LEVEL {
+            assert_eq!((k.cal_svc(task), k.level(task)), (OK, level));
+        }
+        assert_eq!([k.cal_svc(task), k.cal_svc(task)], [Err(E_SYS); 2]);
+        assert_eq!([1, 2, 3, 4].map(|other| k.level(other)), [1, 2, 3, 4].map(|other| u8::from(other == task) * 255));
+        for level in (0..MAX_LEVEL).rev() {
+            assert_eq!((k.ret_svc(task), k.level(task)), (OK, level));
+        }
+        assert_eq!([k.ret_svc(task), k.ret_svc(task)], [Err(E_CTX); 2]);
+        assert_eq!(k.dump(), start);
+    }
+}
+
+#[test]
+fn levels_in_a_dump() {
+    let mut k = Kernel::EMPTY;
+    bench_table(&mut k);
+    assert_eq!([2, 2, 4].map(|task| k.cal_svc(task)), [OK; 3]);
+    assert_eq!([k.snd_dtq(2, 2, 7), k.pol_sem(1, 1), k.wai_sem(4, 1)], [WAITS, OK, WAITS]);
+    let dump = [
+        "task 1 domain=1 ready level=0 priority=1",
+        "task 2 domain=2 sending=2 word=7 level=2 priority=1",
+        "task 3 domain=-1 ready level=0 priority=1",
+        "task 4 domain=1 sem=1 level=1 priority=1",
+    ];
+    assert_eq!(k.dump()[1..5], dump.map(|line| format!("  {line}")));
+}
+
+/// An open table, no such task, one that waits, each before the level is asked.
+#[test]
+fn services_refused() {
+    let mut k = Kernel::EMPTY;
+    assert_eq!([k.fresh(1, 1), k.add_task(1, 1)], [Ok(()); 2]);
+    assert_eq!([k.cal_svc(1), k.ret_svc(1)], [Err(E_CTX); 2]);
+    let mut k = Kernel::EMPTY;
+    bench_table(&mut k);
+    for task in [0, -1, 5, 255, 256, 257, i32::MIN, i32::MAX] {
+        assert_eq!([k.cal_svc(task), k.ret_svc(task)], [Err(E_CTX); 2]);
+    }
+    while k.cal_svc(2).is_ok() {}
+    assert_eq!([k.cal_svc(1), k.pol_sem(3, 1)], [OK; 2]);
+    assert_eq!([k.wai_sem(1, 1), k.wai_sem(2, 1), k.wai_sem(4, 1)], [WAITS; 3]);
+    let waiting = k.dump();
+    for task in [1, 2, 4] {
+        assert_eq!([k.cal_svc(task), k.ret_svc(task)], [Err(E_CTX); 2]);
+    }
+    assert_eq!(k.dump(), waiting);
+}
+
+/// Task 1 of domain 1, task 2 of the kernel; a semaphore and two queues, of capacity 1 and 0, for the kernel only.
+fn closed_to_users() -> Kernel {
+    let mut k = Kernel::EMPTY;
+    assert_eq!(k.fresh(1, 1), Ok(()));
+    assert_eq!([1, TDOM_KERNEL].map(|domain| k.add_task(domain, 1)), [Ok(()); 2]);
+    assert_eq!(k.add_semaphore(TDOM_KERNEL, 0, 0, 1, None), Ok(()));
+    assert_eq!([1, 0].map(|capacity| k.add_queue(TDOM_KERNEL, 0, capacity, None)), [Ok(()); 2]);
+    assert_eq!(k.close(), Ok(()));
+    k
+}
+
+/// Every call by task 1.
+fn all_calls(k: &mut Kernel, id: i32) -> [Result<Done, Er>; 12] {
+    let vector = Vector::KERNEL;
+    [
+        k.sig_sem(1, id),
+        k.pol_sem(1, id),
+        k.pol_sem(1, id),
+        k.sac_sem(1, id, vector),
+        k.ref_sem(1, id).map(|_| Done::OK),
+        k.psnd_dtq(1, id, 5),
+        k.fsnd_dtq(1, id, 6),
+        k.psnd_dtq(1, id, 7),
+        k.prcv_dtq(1, id),
+        k.prcv_dtq(1, id),
+        k.sac_dtq(1, id, vector),
+        k.ref_dtq(1, id).map(|_| Done::OK),
+    ]
+}
+
+/// The checks before the pattern's stay; all that is denied outside is admitted inside, at every level.
+#[test]
+fn inside_as_the_kernel() {
+    let mut k = closed_to_users();
+    let inside = [OK, OK, Err(E_TMOUT), OK, OK, OK, OK, Err(E_TMOUT), done(6, 0, 0), Err(E_TMOUT), OK, OK];
+    for _ in 0..3 {
+        assert_eq!(all_calls(&mut k, 1), [Err(E_OACV); 12]);
+        assert_eq!([k.wai_sem(1, 1), k.snd_dtq(1, 1, 5), k.rcv_dtq(1, 1)], [Err(E_OACV); 3]);
+        assert_eq!(k.fsnd_dtq(1, 2, 5), Err(E_OACV));
+        for _ in 0..3 {
+            assert_eq!(k.cal_svc(1), OK);
+            assert_eq!(all_calls(&mut k, 1), inside);
+            assert_eq!(k.fsnd_dtq(1, 2, 5), Err(E_ILUSE));
+            assert_eq!([0, 65, -1].map(|id| k.sig_sem(1, id)), [Err(E_ID); 3]);
+            assert_eq!([2, 64].map(|id| k.sig_sem(1, id)), [Err(E_NOEXS); 2]);
+        }
+        assert_eq!([k.ret_svc(1), k.ret_svc(1)], [OK; 2]);
+        assert_eq!(all_calls(&mut k, 1), inside);
+        assert_eq!(k.ret_svc(1), OK);
+    }
+    assert_eq!(all_calls(&mut k, 0), [Err(E_ID); 12]);
+}
+
+/// One task's level is no other's: not of a task of the same domain either.
+#[test]
+fn inside_for_itself() {
+    let mut k = Kernel::EMPTY;
+    bench_table(&mut k);
+    assert_eq!([k.cal_svc(1), k.sac_sem(1, 1, Vector::KERNEL)], [OK; 2]);
+    assert_eq!([4, 2].map(|task| k.sig_sem(task, 1)), [Err(E_OACV); 2]);
+    assert_eq!([k.sig_sem(1, 1), k.sig_sem(3, 1), k.ret_svc(1), k.pol_sem(1, 1)], [OK, Err(E_QOVR), OK, Err(E_OACV)]);
+}
+
+/// Who waits inside keeps its level, is not judged again, and goes on inside; outside it is denied again.
+#[test]
+fn waiting_inside() {
+    let mut k = closed_to_users();
+    assert_eq!([k.cal_svc(1), k.cal_svc(1), k.wai_sem(1, 1)], [OK, OK, WAITS]);
+    assert_eq!([k.sig_sem(1, 1), k.ret_svc(1)], [Err(E_CTX); 2]);
+    assert_eq!([k.sac_sem(2, 1, Vector::KERNEL), k.sig_sem(2, 1)], [OK, done(0, 1, 0)]);
+    assert_eq!((k.level(1), k.rcv_dtq(1, 2)), (2, WAITS));
+    assert_eq!(k.psnd_dtq(2, 2, 9), done(0, 1, 9));
+    assert_eq!([k.ret_svc(1), k.snd_dtq(1, 2, 8), k.prcv_dtq(2, 2)], [OK, WAITS, done(8, 1, 0)]);
+    assert_eq!([k.ret_svc(1), k.snd_dtq(1, 2, 8), k.rcv_dtq(1, 2)], [OK, Err(E_OACV), Err(E_OACV)]);
+}
+
+/// A verdict is asked with a domain, and no level changes it.
+#[test]
+fn verdicts_outside() {
+    let mut k = Kernel::EMPTY;
+    bench_table(&mut k);
+    assert_eq!([1, 2, 4].map(|task| k.cal_svc(task)), [OK; 3]);
+    let reads = |domain| k.prb_mem(domain, 0x2000, 1, TPM_READ);
+    assert_eq!([1, 2, TDOM_KERNEL].map(reads), [Ok(()), Err(E_MACV), Ok(())]);
 }

@@ -36,14 +36,24 @@ const BAD_TASKS: [(&str, &str); 5] = [
     (" 1 x", "no number: x"),
 ];
 
+/// Words behind `cal_svc` or `ret_svc` that are no call, and why.
+const BAD_SERVICES: [(&str, &str); 5] = [
+    ("", "1 number wanted, 0 given"),
+    (" 1 1", "1 number wanted, 2 given"),
+    (" 2147483648", "out of range: 2147483648"),
+    (" -2147483649", "out of range: -2147483649"),
+    (" 1x", "no number: 1x"),
+];
+
 /// Attributes of a semaphore or queue that are refused.
 const NO_ATTRIBUTES: [u32; 6] = [2, 3, 4, 5, 0x1_0001, u32::MAX];
 
-/// How many calls of a domain a pattern admitted, and how many it denied.
+/// How many calls of a domain a pattern admitted, how many it denied, and how many it would have denied, but for the caller's level.
 #[derive(Clone, Copy, Default)]
 struct Judged {
     admitted: u32,
     denied: u32,
+    lifted: u32,
 }
 
 /// Commands, and the lines that `replay` is to write for them.
@@ -56,6 +66,9 @@ struct Script {
     tasks: Vec<i32>,
     priorities: &'static [u32],
     judged: BTreeMap<i32, Judged>,
+    /// What came of calls that only their callers' level admitted, and what entering and leaving met.
+    lifted: BTreeMap<String, u32>,
+    services: BTreeMap<(&'static str, &'static str), u32>,
     /// What the forced sends met that passed their checks.
     forced: BTreeMap<&'static str, u32>,
     /// Where those that began to wait stood then, and the most that waited at one place.
@@ -126,14 +139,50 @@ impl Script {
         self.longest = self.longest.max(waiters.len());
     }
 
+    /// Makes a task's call, writes it down, and counts what the pattern said of its domain.
+    fn make<T: Copy>(
+        &mut self,
+        kernel: &mut Kernel,
+        task: i32,
+        command: String,
+        call: impl Fn(&mut Kernel) -> Result<T, Er>,
+        shown: impl Fn(Result<T, Er>) -> String,
+    ) -> Result<T, Er> {
+        let (inside, lifted) = (kernel.level(task) > 0, kernel.lifts(task, &call));
+        let answer = call(kernel);
+        let line = shown(answer);
+        let place = usize::try_from(task).ok().and_then(|number| number.checked_sub(1));
+        let judged = match place.and_then(|place| self.tasks.get(place)) {
+            Some(&domain) => self.judged.entry(domain).or_default(),
+            None => &mut Judged::default(),
+        };
+        match answer.err() {
+            Some(E_CTX | E_ID | E_NOEXS) => {}
+            Some(E_OACV) => judged.denied += 1,
+            _ if lifted => {
+                judged.lifted += 1;
+                let outcome = line.split(' ').next().unwrap_or_default();
+                *self.lifted.entry(outcome.to_string()).or_default() += 1;
+            }
+            _ => judged.admitted += u32::from(!inside),
+        }
+        self.add(command, line);
+        answer
+    }
+
     /// A call that may wait: on a semaphore, to send the word, or to receive.
     fn wait(&mut self, kernel: &mut Kernel, place: Place, task: i32, id: i32, word: u32) -> Result<Done, Er> {
-        let (command, answer) = match place {
-            Place::Semaphore => (format!("wai_sem {task} {id}"), kernel.wai_sem(task, id)),
-            Place::Sending => (format!("snd_dtq {task} {id} {word}"), kernel.snd_dtq(task, id, word)),
-            Place::Receiving => (format!("rcv_dtq {task} {id}"), kernel.rcv_dtq(task, id)),
+        let command = match place {
+            Place::Semaphore => format!("wai_sem {task} {id}"),
+            Place::Sending => format!("snd_dtq {task} {id} {word}"),
+            Place::Receiving => format!("rcv_dtq {task} {id}"),
         };
-        self.add(command, call(answer));
+        let wait = |kernel: &mut Kernel| match place {
+            Place::Semaphore => kernel.wai_sem(task, id),
+            Place::Sending => kernel.snd_dtq(task, id, word),
+            Place::Receiving => kernel.rcv_dtq(task, id),
+        };
+        let answer = self.make(kernel, task, command, wait, call);
         if answer.is_ok_and(|done| done.waiting) {
             self.count_joined(kernel, place, id, task);
         }
@@ -142,59 +191,68 @@ impl Script {
 
     /// The call that releases one of those who wait at a place.
     fn release(&mut self, kernel: &mut Kernel, place: Place, task: i32, id: i32, word: u32) -> Result<Done, Er> {
-        let (command, answer) = match place {
-            Place::Semaphore => (format!("sig_sem {task} {id}"), kernel.sig_sem(task, id)),
-            Place::Sending => (format!("prcv_dtq {task} {id}"), kernel.prcv_dtq(task, id)),
-            Place::Receiving => (format!("psnd_dtq {task} {id} {word}"), kernel.psnd_dtq(task, id, word)),
+        let command = match place {
+            Place::Semaphore => format!("sig_sem {task} {id}"),
+            Place::Sending => format!("prcv_dtq {task} {id}"),
+            Place::Receiving => format!("psnd_dtq {task} {id} {word}"),
         };
-        self.add(command, call(answer));
-        answer
+        let release = |kernel: &mut Kernel| match place {
+            Place::Semaphore => kernel.sig_sem(task, id),
+            Place::Sending => kernel.prcv_dtq(task, id),
+            Place::Receiving => kernel.psnd_dtq(task, id, word),
+        };
+        self.make(kernel, task, command, release, call)
     }
 
-    fn refer(&mut self, kernel: &Kernel, place: Place, task: i32, id: i32) {
-        match place {
+    fn refer(&mut self, kernel: &mut Kernel, place: Place, task: i32, id: i32) {
+        let _ = match place {
             Place::Semaphore => {
-                self.add(format!("ref_sem {task} {id}"), refer(kernel.ref_sem(task, id), "waiter", None))
+                let shown = |answer| refer(answer, "waiter", None);
+                self.make(kernel, task, format!("ref_sem {task} {id}"), |kernel| kernel.ref_sem(task, id), shown)
             }
             _ => {
-                let answer = refer(kernel.ref_dtq(task, id), "sender", Some("receiver"));
-                self.add(format!("ref_dtq {task} {id}"), answer)
+                let shown = |answer| refer(answer, "sender", Some("receiver"));
+                self.make(kernel, task, format!("ref_dtq {task} {id}"), |kernel| kernel.ref_dtq(task, id), shown)
             }
-        }
+        };
     }
 
     /// Whether the forced send was taken.
     fn force(&mut self, kernel: &mut Kernel, task: i32, id: i32, word: u32) -> bool {
         let meets = kernel.forced_meets(id);
-        let answer = kernel.fsnd_dtq(task, id, word);
+        let command = format!("fsnd_dtq {task} {id} {word}");
+        let answer = self.make(kernel, task, command, |kernel| kernel.fsnd_dtq(task, id, word), call);
         if matches!(answer, Ok(_) | Err(E_ILUSE)) {
             *self.forced.entry(meets).or_default() += 1;
         }
-        self.add(format!("fsnd_dtq {task} {id} {word}"), call(answer));
         answer.is_ok()
+    }
+
+    /// Enters an extended service call.
+    fn enter(&mut self, kernel: &mut Kernel, task: i32) -> Result<Done, Er> {
+        *self.services.entry(("entering", kernel.service_meets(task))).or_default() += 1;
+        let answer = kernel.cal_svc(task);
+        self.add(format!("cal_svc {task}"), call(answer));
+        answer
+    }
+
+    /// Leaves one.
+    fn leave(&mut self, kernel: &mut Kernel, task: i32) -> Result<Done, Er> {
+        *self.services.entry(("leaving", kernel.service_meets(task))).or_default() += 1;
+        let answer = kernel.ret_svc(task);
+        self.add(format!("ret_svc {task}"), call(answer));
+        answer
     }
 
     fn user(&self, random: &mut Random) -> i32 {
         random.below(self.domains) as i32 + 1
-    }
-
-    /// What the last line says of the pattern that judged this task's call.
-    fn count_judged(&mut self, task: i32) {
-        let outcome = self.lines.last().and_then(|line| line.split(" -> ").nth(1)).and_then(|a| a.split(' ').next());
-        let place = usize::try_from(task).ok().and_then(|number| number.checked_sub(1));
-        let Some(&domain) = place.and_then(|place| self.tasks.get(place)) else { return };
-        let judged = self.judged.entry(domain).or_default();
-        match outcome {
-            Some("E_OACV") => judged.denied += 1,
-            Some("E_OK" | "waiting" | "E_TMOUT" | "E_QOVR" | "E_ILUSE") => judged.admitted += 1,
-            _ => {}
-        }
     }
 }
 
 fn name(code: Er) -> &'static str {
     match code {
         E_OK => "E_OK",
+        E_SYS => "E_SYS",
         E_RSATR => "E_RSATR",
         E_PAR => "E_PAR",
         E_ID => "E_ID",
@@ -343,13 +401,16 @@ fn entry(random: &mut Random, kernel: &mut Kernel, script: &mut Script, last: &m
 fn semaphore_call(random: &mut Random, kernel: &mut Kernel, script: &mut Script, task: i32, id: i32) {
     match random.below(6) {
         0 | 1 => _ = script.release(kernel, Place::Semaphore, task, id, 0),
-        2 => script.add(format!("pol_sem {task} {id}"), call(kernel.pol_sem(task, id))),
+        2 => {
+            let command = format!("pol_sem {task} {id}");
+            let _ = script.make(kernel, task, command, |kernel| kernel.pol_sem(task, id), call);
+        }
         3 => _ = script.wait(kernel, Place::Semaphore, task, id, 0),
         4 => script.refer(kernel, Place::Semaphore, task, id),
         _ => {
             let vector = random_vector(random);
-            let answer = call(kernel.sac_sem(task, id, vector));
-            script.add(format!("sac_sem {task} {id} {}", patterns(vector, " ")), answer);
+            let command = format!("sac_sem {task} {id} {}", patterns(vector, " "));
+            let _ = script.make(kernel, task, command, |kernel| kernel.sac_sem(task, id, vector), call);
         }
     }
 }
@@ -366,10 +427,51 @@ fn queue_call(random: &mut Random, kernel: &mut Kernel, script: &mut Script, tas
         7 => script.refer(kernel, Place::Sending, task, id),
         _ => {
             let vector = random_vector(random);
-            let answer = call(kernel.sac_dtq(task, id, vector));
-            script.add(format!("sac_dtq {task} {id} {}", patterns(vector, " ")), answer);
+            let command = format!("sac_dtq {task} {id} {}", patterns(vector, " "));
+            let _ = script.make(kernel, task, command, |kernel| kernel.sac_dtq(task, id, vector), call);
         }
     }
+}
+
+/// Entering or leaving, more often the latter, so that tasks are outside as well.
+fn service_call(random: &mut Random, kernel: &mut Kernel, script: &mut Script, task: i32) {
+    if random.one_in(100) {
+        let ((words, reason), name) = (random.pick(&BAD_SERVICES), random.pick(&["cal_svc", "ret_svc"]));
+        script.add(format!("{name}{words}"), format!("bad line: {reason}"));
+    }
+    let _ = match random.below(5) {
+        0 | 1 => script.enter(kernel, task),
+        _ => script.leave(kernel, task),
+    };
+}
+
+/// A ready task enters again and again, sometimes past the highest level, and refers to an object now and then; it may wait there then,
+/// and leaves as often as chance has it.
+fn climb(random: &mut Random, kernel: &mut Kernel, script: &mut Script, id: i32) {
+    let ready = kernel.ready();
+    if ready.is_empty() {
+        return;
+    }
+    let any = random.below(usize::from(MAX_LEVEL));
+    let (task, most) = (random.pick(&ready), random.pick(&[2, 5, 20, any, 255, 300]));
+    let place = random.pick(&[Place::Semaphore, Place::Sending, Place::Receiving]);
+    for _ in 0..most {
+        if script.enter(kernel, task) == Err(E_CTX) {
+            return;
+        }
+        if random.one_in(10) {
+            script.refer(kernel, place, task, id);
+        }
+    }
+    if random.one_in(2) {
+        let _ = script.wait(kernel, place, task, id, most as u32);
+        service_call(random, kernel, script, task);
+    }
+    if random.one_in(4) {
+        script.dump(kernel);
+    }
+    let some = random.below(most + 1);
+    let _ = (0..random.pick(&[0, 1, some, most + 1])).all(|_| script.leave(kernel, task).is_ok());
 }
 
 /// Forced sends to one queue, some of them more than any queue can hold, then poll-receives; a refusal ends each.
@@ -395,7 +497,13 @@ fn crowd(random: &mut Random, kernel: &mut Kernel, script: &mut Script) {
         if ready.is_empty() {
             break;
         }
-        let answer = script.wait(kernel, place, random.pick(&ready), id, word);
+        let task = random.pick(&ready);
+        let mut answer = script.wait(kernel, place, task, id, word);
+        // Some of those who are denied come again from inside.
+        if answer == Err(E_OACV) && random.one_in(3) {
+            let _ = script.enter(kernel, task);
+            answer = script.wait(kernel, place, task, id, word);
+        }
         if matches!(answer, Err(code) if code != E_OACV) {
             return;
         }
@@ -403,13 +511,16 @@ fn crowd(random: &mut Random, kernel: &mut Kernel, script: &mut Script) {
             0..=5 => _ = script.release(kernel, place, keeper, id, word),
             6..=11 => script.refer(kernel, place, keeper, id),
             12 => script.dump(kernel),
+            13..=18 => service_call(random, kernel, script, task),
             _ => {}
         }
     }
     for word in 0..random.below(most as usize + 1) {
         let keeper = script.keeper(kernel);
-        if script.release(kernel, place, keeper, id, word as u32).is_err() {
-            break;
+        let Ok(done) = script.release(kernel, place, keeper, id, word as u32) else { break };
+        let released = done.released.map_or(0, |released| released.task as i32);
+        if kernel.level(released) > 0 && !random.one_in(3) {
+            let _ = script.leave(kernel, released);
         }
         match random.below(60) {
             0..=5 => script.refer(kernel, place, keeper, id),
@@ -489,17 +600,18 @@ fn random_script(random: &mut Random) -> Script {
         if random.one_in(80) {
             crowd(random, &mut kernel, &mut script);
         }
+        if random.one_in(200) {
+            climb(random, &mut kernel, &mut script, id);
+        }
         if random.one_in(160) {
             script.dump(&kernel);
         }
-        match random.below(12) {
+        match random.below(14) {
             0 => verdict(random, &mut kernel, &mut script, &last),
             1 => entry(random, &mut kernel, &mut script, &mut last),
-            kind => {
-                let make = if kind <= 6 { semaphore_call } else { queue_call };
-                make(random, &mut kernel, &mut script, task, id);
-                script.count_judged(task);
-            }
+            2..=6 => semaphore_call(random, &mut kernel, &mut script, task, id),
+            7..=11 => queue_call(random, &mut kernel, &mut script, task, id),
+            _ => service_call(random, &mut kernel, &mut script, task),
         }
     }
     script.dump(&kernel);
@@ -522,7 +634,7 @@ fn replay(commands: &str) -> String {
 pub fn compare() {
     let (mut random, mut lines, mut codes) = (Random::new(SEED), 0, BTreeMap::new());
     let mut judged: BTreeMap<i32, Judged> = BTreeMap::new();
-    let mut forced = BTreeMap::new();
+    let (mut forced, mut lifted, mut services) = (BTreeMap::new(), BTreeMap::new(), BTreeMap::new());
     let (mut joined, mut longest, mut dumps) = (BTreeMap::new(), 0, 0);
     for number in 0..SCRIPTS {
         let script = random_script(&mut random);
@@ -534,12 +646,15 @@ pub fn compare() {
         lines += script.lines.len();
         script.forced.into_iter().for_each(|(met, count)| *forced.entry(met).or_insert(0) += count);
         script.joined.into_iter().for_each(|(stands, count)| *joined.entry(stands).or_insert(0) += count);
+        script.lifted.into_iter().for_each(|(outcome, count)| *lifted.entry(outcome).or_insert(0) += count);
+        script.services.into_iter().for_each(|(met, count)| *services.entry(met).or_insert(0) += count);
         longest = longest.max(script.longest);
         dumps += script.dumps;
-        for (domain, Judged { admitted, denied }) in script.judged {
+        for (domain, Judged { admitted, denied, lifted }) in script.judged {
             let sum = judged.entry(domain).or_default();
             sum.admitted += admitted;
             sum.denied += denied;
+            sum.lifted += lifted;
         }
         let answers = script.lines.iter().filter(|line| !line.starts_with("dump"));
         for outcome in answers.filter_map(|line| line.split_whitespace().skip_while(|&word| word != "->").nth(1)) {
@@ -548,9 +663,17 @@ pub fn compare() {
     }
     println!("\nTables, calls and verdicts, seed {SEED}: {lines} lines of `replay` in {SCRIPTS} scripts alike.");
     println!("What came back: {codes:?}");
-    let users = (1..=MAX_DOMAINS).map(|domain| judged.get(&domain).copied().unwrap_or_default());
-    let (admitted, denied) = users.fold((u32::MAX, u32::MAX), |(a, d), one| (a.min(one.admitted), d.min(one.denied)));
-    println!("Of each user domain, 1 to {MAX_DOMAINS}, at least {admitted} calls were admitted and {denied} denied.");
+    let users = || (1..=MAX_DOMAINS).map(|domain| judged.get(&domain).copied().unwrap_or_default());
+    let fewest = |count: fn(Judged) -> u32| users().map(count).min().unwrap_or(0);
+    let (admitted, denied, inside) = (fewest(|one| one.admitted), fewest(|one| one.denied), fewest(|one| one.lifted));
+    println!(
+        "Of each user domain, 1 to {MAX_DOMAINS}, at least {admitted} calls were admitted and {denied} denied, and"
+    );
+    println!("{inside} were admitted only inside an extended service call. What came of the latter: {lifted:?}.");
+    println!("What entering and leaving met:");
+    for ((kind, met), count) in services {
+        println!("  {kind:<10} {met:<54} {count:>8}");
+    }
     println!("What forced sends met: {forced:?}.");
     println!("{dumps} dumps. At most {longest} waited at one place. Where those stood that began to wait:");
     for ((place, stands), count) in joined {

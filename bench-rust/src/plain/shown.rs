@@ -1,4 +1,5 @@
-//! The whole state as lines of text, in the form of a `dump` by the program `replay`, and who waits where.
+//! The whole state as lines of text, in the form of a `dump` by the program `replay`; who waits where, and who is inside an extended
+//! service call.
 
 use super::*;
 
@@ -74,6 +75,22 @@ impl Kernel {
         self.task(task).priority.into()
     }
 
+    /// How many extended service calls a task is inside; 0 where there is no such task.
+    pub fn level(&self, task: i32) -> u8 {
+        self.tasks.index(task).map_or(0, |task| self.tasks.entries[task].level)
+    }
+
+    /// Whether a task's call is admitted only because the task is inside an extended service call: the same call on a copy, in which it
+    /// has left them all, is denied.
+    pub fn lifts<T>(&self, task: i32, call: impl Fn(&mut Kernel) -> Result<T, Er>) -> bool {
+        if self.level(task) == 0 {
+            return false;
+        }
+        let mut outside = self.clone();
+        while outside.ret_svc(task).is_ok() {}
+        matches!(call(&mut outside), Err(E_OACV))
+    }
+
     /// What each task does, told by the wait queues.
     fn states(&self) -> Vec<String> {
         let mut states = vec!["ready".to_string(); self.tasks.count];
@@ -111,7 +128,7 @@ impl Kernel {
             format!("tasks={} sems={} dtqs={} mems={}", tasks.count, semaphores.count, queues.count, regions.count);
         let mut lines = vec![format!("n={domains} closed={} {counts} unit={unit}", u32::from(*closed))];
         lines.extend(tasks.numbered().zip(self.states()).map(|((id, task), state)| {
-            format!("  task {id} domain={} {state} priority={}", task.domain, task.priority)
+            format!("  task {id} domain={} {state} level={} priority={}", task.domain, task.level, task.priority)
         }));
         lines.extend(semaphores.numbered().map(|(id, Semaphore { domain, count, max, vector, waiters })| {
             let (vector, numbers) = (vector.patterns(), list(waiters.numbers(&tasks.entries)));

@@ -18,7 +18,7 @@ use Rattle.access.specs.declared.vector.Operation.{Operation}
 use Rattle.access.specs.declared.vector.Operation.the-variants.{Normal1, Normal2, Management, Reference}
 use Rattle.access.specs.declared.audit.Admissions.{Admissions}
 use Rattle.access.specs.declared.audit.AuditReport.{AuditReport}
-use Rattle.access.specs.Domains.{ordinalOf}
+use Rattle.access.specs.Domains.{ordinalOf, runningOf}
 use Rattle.access.specs.Patterns.{allZeros, allOnes, admitted}
 use Rattle.access.specs.Vectors.{patternOf, uniform, privateOf, defaultOf, resolved}
 use Rattle.access.specs.Audits.{countTo, orElse, lowestTo, admissionsOf, noAdmissions, auditOf}
@@ -120,6 +120,25 @@ bit-only k z h = ⊎-elim inl (λ (j, e, l). inr (e ∙ ap (λ (i : ℕ). pos (s
 -- "Bits for domains above n are accepted and admit nobody": no domain from 1 to n needs them, and there are no others
 pub above-unused : (p n k : ℕ) → n ≤ maxDomains → k < n → admitted (p % 2 ^ n) (pos (suc k)) ≡ admitted p (pos (suc k))
 above-unused p n k h l = admitted-bit (p % 2 ^ n) k (omega arith) ∙ ap (λ (b : ℕ). eqb b 1) (low-bit p n k l) ∙ sym (admitted-bit p k (omega arith))
+
+-- ---- the running domain (request T-03)
+
+-- at level 0 a task runs as its own domain, above 0 as the kernel domain
+pub running-outside : (z : ℤ) → runningOf z 0 ≡ z
+running-outside z = refl
+
+pub running-inside : (z : ℤ) (k : ℕ) → 0 < k → runningOf z k ≡ negsuc 0
+running-inside z zero h = absurd (omega arith)
+running-inside z (suc k) h = refl
+
+-- a task of the kernel domain runs as that at every level
+pub running-kernel : (k : ℕ) → runningOf (negsuc 0) k ≡ negsuc 0
+running-kernel zero = refl
+running-kernel (suc k) = refl
+
+-- so every pattern admits who is inside an extended service call
+pub inside-admitted : (p : ℕ) (z : ℤ) (k : ℕ) → 0 < k → admitted p (runningOf z k) ≡ true
+inside-admitted p z k h = ap (admitted p) (running-inside z k h) ∙ kernel-always p
 
 -- ---- vectors
 

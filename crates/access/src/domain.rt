@@ -1,6 +1,6 @@
 // Domain numbers: special domains are below zero, user domains count from 1.
 ghost use mathlib.Core.Path.{_≡_};
-ghost use Rattle.access.specs.Domains.{ordinalOf, sameDomain};
+ghost use Rattle.access.specs.Domains.{ordinalOf, sameDomain, runningOf};
 
 pub const KERNEL_DOMAIN: i32 = -1;
 
@@ -26,4 +26,14 @@ pub fn is_same(domain: i32, other: i32) -> bool
     ensures { λ r. ⌜ r ≡ sameDomain domain other ⌝ }
 {
     domain == other
+}
+
+// The domain as which a task of a domain runs: inside extended service calls, that is above level 0, it is the kernel's.
+pub fn running(domain: i32, level: u8) -> i32
+    ensures { λ r. ⌜ r ≡ runningOf domain level ⌝ }
+{
+    if level == 0 {
+        return domain;
+    }
+    KERNEL_DOMAIN
 }

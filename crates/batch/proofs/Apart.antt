@@ -5,7 +5,7 @@ use mathlib.Core.Bool.{false, cond}
 use mathlib.Core.List.{List}
 use lib.Dec.{eqb}
 use lib.ListN.{getD}
-use Rattle.itron.specs.Codes.{Code, ok, waiting, error, eRsatr, ePar, eId, eCtx, eMacv, eOacv, eIluse, eNomem, eNoid, eObj, eNoexs, eQovr, eTmout}
+use Rattle.itron.specs.Codes.{Code, ok, waiting, error, eSys, eRsatr, ePar, eId, eCtx, eMacv, eOacv, eIluse, eNomem, eNoid, eObj, eNoexs, eQovr, eTmout}
 use Rattle.model.specs.Answers.{Answer, outcomeOf, replyOf}
 use Rattle.model.proofs.Lists.{ne-of}
 use Rattle.batch.specs.Encoding.{outcomeWord, encoded, noCall}
@@ -15,6 +15,7 @@ abbrev codeFrom : ℕ → Code
 codeFrom n =
     cond (eqb n 0) ok
     (cond (eqb n 1) waiting
+    (cond (eqb n 4294967291) (error eSys)
     (cond (eqb n 4294967285) (error eRsatr)
     (cond (eqb n 4294967279) (error ePar)
     (cond (eqb n 4294967278) (error eId)
@@ -27,11 +28,12 @@ codeFrom n =
     (cond (eqb n 4294967255) (error eObj)
     (cond (eqb n 4294967254) (error eNoexs)
     (cond (eqb n 4294967253) (error eQovr)
-    (error eTmout))))))))))))))
+    (error eTmout)))))))))))))))
 
 code-from : (c : Code) → codeFrom (outcomeWord (outcomeOf c)) ≡ c
 code-from ok = refl
 code-from waiting = refl
+code-from (error eSys) = refl
 code-from (error eRsatr) = refl
 code-from (error ePar) = refl
 code-from (error eId) = refl
@@ -50,6 +52,7 @@ code-from (error eTmout) = refl
 no-code : (c : Code) → eqb (outcomeWord (outcomeOf c)) (getD noCall 0 0) ≡ false
 no-code ok = refl
 no-code waiting = refl
+no-code (error eSys) = refl
 no-code (error eRsatr) = refl
 no-code (error ePar) = refl
 no-code (error eId) = refl

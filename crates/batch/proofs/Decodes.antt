@@ -20,7 +20,8 @@ use Rattle.model.specs.Acts.{own, refer, setVector}
 use Rattle.model.specs.declared.sem.SemaphoreCall.the-variants.{Signal as signal, Acquire as acquire}
 use Rattle.model.specs.declared.dtq.QueueCall.the-variants.{Send as send, Receive as receive, ForcedSend as forcedSend}
 use Rattle.model.specs.declared.Patience.the-variants.{Polling, Forever}
-use Rattle.model.specs.Calls.{Op, Call, call, onSemaphore, onQueue}
+use Rattle.model.specs.declared.svc.ExtendedCall.the-variants.{Enter, Leave}
+use Rattle.model.specs.Calls.{Op, Call, call, onSemaphore, onQueue, onLevel}
 use Rattle.batch.specs.declared.numbers.Numbers.{Numbers}
 use Rattle.batch.specs.Encoding.{numbersAt, meanings, itemOf, itemAt, itemsIn, callsIn, groups, answerable}
 use Rattle.batch.specs.Written.{numbersBy, numbersOf, wordsOf, Unsigned, Signed, Fits}
@@ -59,32 +60,34 @@ module _ (before behind : List ℕ) (k : ℕ) (e : length before ≡ k * 8) wher
       λ i. record { function = p i; caller = x i; object = y i; word = word-at ws 3 i; vector = record { normal1 = word-at ws 4 i; normal2 = word-at ws 5 i; management = word-at ws 6 i; reference = word-at ws 7 i } } in
       ap (λ (d : Bool). cond d (itemOf (numbersAt all (k * 8))) none) (le-leb (k * 8 + 8) (length all) l) ∙ ap itemOf r
 
--- ---- every call has a function, whatever stands where it has no word and no vector; what has none of their functions is no call
-means-by : (w : ℕ) (v : Vector) (t : ℤ) (o : Op) → itemOf (numbersBy w v t o) ≡ some (call t o)
-means-by w v t (onSemaphore n (own signal)) = refl
-means-by w v t (onSemaphore n (own (acquire Polling))) = refl
-means-by w v t (onSemaphore n (own (acquire Forever))) = refl
-means-by w v t (onSemaphore n refer) = refl
-means-by w v t (onSemaphore n (setVector x)) = refl
-means-by w v t (onQueue n (own (send Polling x))) = refl
-means-by w v t (onQueue n (own (send Forever x))) = refl
-means-by w v t (onQueue n (own (receive Polling))) = refl
-means-by w v t (onQueue n (own (receive Forever))) = refl
-means-by w v t (onQueue n refer) = refl
-means-by w v t (onQueue n (setVector x)) = refl
-means-by w v t (onQueue n (own (forcedSend x))) = refl
+-- ---- every call has a function, whatever stands where it has no object, no word and no vector; what has none of their functions is no call
+means-by : (n : ℤ) (w : ℕ) (v : Vector) (t : ℤ) (o : Op) → itemOf (numbersBy n w v t o) ≡ some (call t o)
+means-by n w v t (onSemaphore i (own signal)) = refl
+means-by n w v t (onSemaphore i (own (acquire Polling))) = refl
+means-by n w v t (onSemaphore i (own (acquire Forever))) = refl
+means-by n w v t (onSemaphore i refer) = refl
+means-by n w v t (onSemaphore i (setVector x)) = refl
+means-by n w v t (onQueue i (own (send Polling x))) = refl
+means-by n w v t (onQueue i (own (send Forever x))) = refl
+means-by n w v t (onQueue i (own (receive Polling))) = refl
+means-by n w v t (onQueue i (own (receive Forever))) = refl
+means-by n w v t (onQueue i refer) = refl
+means-by n w v t (onQueue i (setVector x)) = refl
+means-by n w v t (onQueue i (own (forcedSend x))) = refl
+means-by n w v t (onLevel Enter) = refl
+means-by n w v t (onLevel Leave) = refl
 
-pub means : (w : ℕ) (v : Vector) (c : Call) → itemOf (numbersOf w v c) ≡ some c
-means w v c = means-by w v (c .caller) (c .op)
+pub means : (n : ℤ) (w : ℕ) (v : Vector) (c : Call) → itemOf (numbersOf n w v c) ≡ some c
+means n w v c = means-by n w v (c .caller) (c .op)
 
-pub means-nothing : (q : Numbers) → (q .function ≡ 0) ⊎ (12 < q .function) → itemOf q ≡ none
+pub means-nothing : (q : Numbers) → (q .function ≡ 0) ⊎ (14 < q .function) → itemOf q ≡ none
 means-nothing q (inl e) = rw e
 means-nothing q (inr l) = beyond (meanings q) (q .function) l
 
 -- so a call's eight words are that call at any place, and fewer than eight are none
-pub decodes : (w : ℕ) (v : Vector) (c : Call) → Fits (numbersOf w v c) → (before behind : List ℕ) (k : ℕ) → length before ≡ k * 8
-    → itemAt (before ++ (wordsOf (numbersOf w v c) ++ behind)) k ≡ some c
-decodes w v c f before behind k e = reads before behind k e (numbersOf w v c) f ∙ means w v c
+pub decodes : (n : ℤ) (w : ℕ) (v : Vector) (c : Call) → Fits (numbersOf n w v c) → (before behind : List ℕ) (k : ℕ) → length before ≡ k * 8
+    → itemAt (before ++ (wordsOf (numbersOf n w v c) ++ behind)) k ≡ some c
+decodes n w v c f before behind k e = reads before behind k e (numbersOf n w v c) f ∙ means n w v c
 
 pub too-few : (ws : List ℕ) (k : ℕ) → length ws < k * 8 + 8 → itemAt ws k ≡ none
 too-few ws k l = ap (λ (d : Bool). cond d (itemOf (numbersAt ws (k * 8))) none) (lt-leb (k * 8 + 8) (length ws) l)
@@ -123,18 +126,18 @@ smaller calls answers = go (ltb (answers / 11) (groups calls)) refl
     go false e = let h = ltb-false (answers / 11) (groups calls) e in omega arith
 
 -- ---- so every list of calls can be made
-only-calls : (w : ℕ) (v : Vector) (cs : List Call) → callsIn (map itemOf (map (numbersOf w v) cs)) ≡ cs
-only-calls w v [] = refl
-only-calls w v (c ∷ cs) =
-    let x = means w v c in
-    let y = only-calls w v cs in
-    ap (λ (i : Option Call). callsIn (i ∷ map itemOf (map (numbersOf w v) cs))) x ∙ ap (λ (l : List Call). c ∷ l) y
+only-calls : (n : ℤ) (w : ℕ) (v : Vector) (cs : List Call) → callsIn (map itemOf (map (numbersOf n w v) cs)) ≡ cs
+only-calls n w v [] = refl
+only-calls n w v (c ∷ cs) =
+    let x = means n w v c in
+    let y = only-calls n w v cs in
+    ap (λ (i : Option Call). callsIn (i ∷ map itemOf (map (numbersOf n w v) cs))) x ∙ ap (λ (l : List Call). c ∷ l) y
 
-pub all-made : (w : ℕ) (v : Vector) (cs : List Call) → All Fits (map (numbersOf w v) cs) → (answers : List ℕ) → length cs * 11 ≤ length answers
-    → callsMade (words wordsOf (map (numbersOf w v) cs)) answers ≡ cs
-all-made w v cs f answers l =
-    let qs = map (numbersOf w v) cs in
+pub all-made : (n : ℤ) (w : ℕ) (v : Vector) (cs : List Call) → All Fits (map (numbersOf n w v) cs) → (answers : List ℕ) → length cs * 11 ≤ length answers
+    → callsMade (words wordsOf (map (numbersOf n w v) cs)) answers ≡ cs
+all-made n w v cs f answers l =
+    let qs = map (numbersOf n w v) cs in
     let ws = words wordsOf qs in
-    let n : answerable (length ws) (length answers) ≡ length qs = omega (arith, smaller (length ws) (length answers), whole-groups qs, length-map cs (numbersOf w v)) in
+    let m : answerable (length ws) (length answers) ≡ length qs = omega (arith, smaller (length ws) (length answers), whole-groups qs, length-map cs (numbersOf n w v)) in
     let x = ap (λ (l : List ℕ). itemsIn l (length qs)) (sym (append-nil ws)) ∙ all-read qs f [] in
-    ap (λ (k : ℕ). callsIn (itemsIn ws k)) n ∙ ap callsIn x ∙ only-calls w v cs
+    ap (λ (k : ℕ). callsIn (itemsIn ws k)) m ∙ ap callsIn x ∙ only-calls n w v cs

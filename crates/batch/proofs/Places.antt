@@ -11,7 +11,7 @@ use lib.ListN.{length, take, drop, replicate, length-drop}
 use lib.Seq.{take-all, drop-at, drop-append-le, take-append-le}
 use mir.Syntax.{w32}
 use mir.Val.{ofZ}
-use Rattle.itron.specs.Codes.{Code, ok, waiting, error, eRsatr, ePar, eId, eCtx, eMacv, eOacv, eIluse, eNomem, eNoid, eObj, eNoexs, eQovr, eTmout}
+use Rattle.itron.specs.Codes.{Code, ok, waiting, error, eSys, eRsatr, ePar, eId, eCtx, eMacv, eOacv, eIluse, eNomem, eNoid, eObj, eNoexs, eQovr, eTmout}
 use Rattle.model.specs.State as Model
 use Rattle.model.specs.Answers.{Answer, outcomeOf}
 use Rattle.model.specs.Calls.{Call, step}
@@ -29,6 +29,7 @@ use Rattle.batch.proofs.Loops.{answersOf, answers-next, answer-length, 
 code-said : (c : Code) → CodeSaid c (outcomeWord (outcomeOf c))
 code-said ok = refl
 code-said waiting = refl
+code-said (error eSys) = refl
 code-said (error eRsatr) = refl
 code-said (error ePar) = refl
 code-said (error eId) = refl

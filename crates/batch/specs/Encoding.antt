@@ -12,7 +12,8 @@ use Rattle.model.specs.Answers.{Answer, outcomeOf, releasedOf}
 use Rattle.model.specs.Acts.{own, refer, setVector}
 use Rattle.model.specs.declared.sem.SemaphoreCall.the-variants.{Signal as signal, Acquire as acquire}
 use Rattle.model.specs.declared.dtq.QueueCall.the-variants.{Send as send, Receive as receive, ForcedSend as forcedSend}
-use Rattle.model.specs.Calls.{Call, call, onSemaphore, onQueue}
+use Rattle.model.specs.declared.svc.ExtendedCall.the-variants.{Enter, Leave}
+use Rattle.model.specs.Calls.{Call, call, onSemaphore, onQueue, onLevel}
 use Rattle.model.specs.History.{History}
 use Rattle.model.specs.declared.Outcome.{Outcome}
 use Rattle.model.specs.declared.Outcome.the-variants.{Code, Waiting}
@@ -48,6 +49,8 @@ meanings q =
     ∷ call (q .caller) (onQueue (q .object) refer)
     ∷ call (q .caller) (onQueue (q .object) (setVector (q .vector)))
     ∷ call (q .caller) (onQueue (q .object) (own (forcedSend (q .word))))
+    ∷ call (q .caller) (onLevel Enter)
+    ∷ call (q .caller) (onLevel Leave)
     ∷ []
 
 -- the n-th of a list, counted from 1

@@ -13,29 +13,32 @@ use Rattle.model.specs.Acts.{own, refer, setVector}
 use Rattle.model.specs.declared.sem.SemaphoreCall.the-variants.{Signal as signal, Acquire as acquire}
 use Rattle.model.specs.declared.dtq.QueueCall.the-variants.{Send as send, Receive as receive, ForcedSend as forcedSend}
 use Rattle.model.specs.declared.Patience.the-variants.{Polling, Forever}
-use Rattle.model.specs.Calls.{Op, Call, onSemaphore, onQueue}
+use Rattle.model.specs.declared.svc.ExtendedCall.the-variants.{Enter, Leave}
+use Rattle.model.specs.Calls.{Op, Call, onSemaphore, onQueue, onLevel}
 use Rattle.batch.specs.declared.numbers.Numbers.{Numbers}
 
 -- ---- a call's numbers: function, caller, object, word, vector
 abbrev pub row : ℕ → ℤ → ℤ → ℕ → Vector → Numbers
 row f t n w v = record { function = f; caller = t; object = n; word = w; vector = v }
 
--- where a call has no word, any word w may stand, and where it has no vector, any vector v: they say nothing
-module _ (w : ℕ) (v : Vector) where
+-- where a call has no object, any number n may stand, where it has no word, any word w, and where it has no vector, any vector v: they say nothing
+module _ (n : ℤ) (w : ℕ) (v : Vector) where
   -- a function for each call, in document 01's order; then what requests added
   abbrev pub numbersBy : ℤ → Op → Numbers
-  numbersBy t (onSemaphore n (own signal)) = row 1 t n w v
-  numbersBy t (onSemaphore n (own (acquire Polling))) = row 2 t n w v
-  numbersBy t (onSemaphore n (own (acquire Forever))) = row 3 t n w v
-  numbersBy t (onSemaphore n refer) = row 4 t n w v
-  numbersBy t (onSemaphore n (setVector x)) = row 5 t n w x
-  numbersBy t (onQueue n (own (send Polling x))) = row 6 t n x v
-  numbersBy t (onQueue n (own (send Forever x))) = row 7 t n x v
-  numbersBy t (onQueue n (own (receive Polling))) = row 8 t n w v
-  numbersBy t (onQueue n (own (receive Forever))) = row 9 t n w v
-  numbersBy t (onQueue n refer) = row 10 t n w v
-  numbersBy t (onQueue n (setVector x)) = row 11 t n w x
-  numbersBy t (onQueue n (own (forcedSend x))) = row 12 t n x v
+  numbersBy t (onSemaphore i (own signal)) = row 1 t i w v
+  numbersBy t (onSemaphore i (own (acquire Polling))) = row 2 t i w v
+  numbersBy t (onSemaphore i (own (acquire Forever))) = row 3 t i w v
+  numbersBy t (onSemaphore i refer) = row 4 t i w v
+  numbersBy t (onSemaphore i (setVector x)) = row 5 t i w x
+  numbersBy t (onQueue i (own (send Polling x))) = row 6 t i x v
+  numbersBy t (onQueue i (own (send Forever x))) = row 7 t i x v
+  numbersBy t (onQueue i (own (receive Polling))) = row 8 t i w v
+  numbersBy t (onQueue i (own (receive Forever))) = row 9 t i w v
+  numbersBy t (onQueue i refer) = row 10 t i w v
+  numbersBy t (onQueue i (setVector x)) = row 11 t i w x
+  numbersBy t (onQueue i (own (forcedSend x))) = row 12 t i x v
+  numbersBy t (onLevel Enter) = row 13 t n w v
+  numbersBy t (onLevel Leave) = row 14 t n w v
 
   abbrev pub numbersOf : Call → Numbers
   numbersOf c = numbersBy (c .caller) (c .op)

@@ -1,7 +1,7 @@
 // What a call's numbers ask for.
 ghost use mathlib.Core.Path.{_≡_};
 ghost use Rattle.batch.specs.Encoding.{itemOf};
-ghost use Rattle.model.specs.declared.Request.the-variants.{Semaphore, Queue};
+ghost use Rattle.model.specs.declared.Request.the-variants.{Semaphore, Queue, Extended};
 ghost use Rattle.batch.specs.declared.asked.Asked.the-variants.{Call};
 ghost use Rattle.batch.specs.Made.{meaningOf};
 use crate::numbers::Numbers;
@@ -11,6 +11,7 @@ use model::dtq::QueueCall;
 use model::dtq::QueueRequest;
 use model::sem::SemaphoreCall;
 use model::sem::SemaphoreRequest;
+use model::svc::ExtendedCall;
 
 // Functions, in document 01's order; then what requests added.
 pub const SIG_SEM: u32 = 1;
@@ -37,6 +38,10 @@ pub const SAC_DTQ: u32 = 11;
 
 pub const FSND_DTQ: u32 = 12;
 
+pub const CAL_SVC: u32 = 13;
+
+pub const RET_SVC: u32 = 14;
+
 pub enum Asked {
     // No call: another function.
     Nothing,
@@ -53,6 +58,12 @@ fn of_queue(object: i32, asked: QueueRequest) -> Asked
     ensures { λ r. ⌜ r ≡ Call (Queue object asked) ⌝ }
 {
     Asked::Call(Request::Queue(object, asked))
+}
+
+fn of_level(asked: ExtendedCall) -> Asked
+    ensures { λ r. ⌜ r ≡ Call (Extended asked) ⌝ }
+{
+    Asked::Call(Request::Extended(asked))
 }
 
 // One line for each function.
@@ -94,6 +105,8 @@ pub(crate) fn request_of(numbers: Numbers) -> Asked
         REF_DTQ => of_queue(object, QueueRequest::Refer),
         SAC_DTQ => of_queue(object, QueueRequest::SetVector(vector)),
         FSND_DTQ => of_queue(object, QueueRequest::Own(QueueCall::ForcedSend(word))),
+        CAL_SVC => of_level(ExtendedCall::Enter),
+        RET_SVC => of_level(ExtendedCall::Leave),
         _ => Asked::Nothing,
     }
 }

@@ -1,5 +1,5 @@
-// The bench runs and the easy slips of document 01, with forced sends, priority order, units and chains of regions (document 02,
-// T-05, T-10, T-06 and T-09), through the kernel's public operations, one line for each step.
+// The bench runs and the easy slips of document 01, with forced sends, priority order, extended service calls, units and chains of
+// regions (document 02, T-05, T-10, T-03, T-06 and T-09), through the kernel's public operations, one line for each step.
 pub mod calls;
 pub mod chains;
 pub mod entries;
@@ -8,6 +8,7 @@ pub mod names;
 pub mod priority;
 pub mod runs;
 pub mod say;
+pub mod service;
 pub mod slips;
 pub mod table;
 pub mod units;
@@ -26,6 +27,7 @@ fn main() {
     runs::regions(table);
     forced::all(table);
     priority::all();
+    service::all(table);
     units::all();
     chains::all();
     slips::all(table);

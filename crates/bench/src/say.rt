@@ -1,7 +1,9 @@
 // How answers are told: a code or `waiting`, then a call's word and released task where they are not 0.
 ghost use Rattle.kernel.specs.Valid.{Valid};
 use crate::names;
+use access::domain::ordinal;
 use access::vector::Vector;
+use itron::limit::MAX_TASKS;
 use kernel::state::Answer;
 use kernel::state::Entered;
 use kernel::state::State;
@@ -82,4 +84,14 @@ pub fn say_queue(answer: Answer) -> State
     named(b", words ", info.amount as u64);
     patterns(b", vector", vector);
     state
+}
+
+// A task's level at the end of a line.
+pub fn say_level(s: State, task: i32) -> State
+    requires { ⌜ Valid s ⌝ }
+    ensures { λ r. ⌜ Valid r ⌝ }
+{
+    let level = s.level(ordinal(task, MAX_TASKS));
+    named(b", level ", level as u64);
+    s
 }

@@ -60,6 +60,7 @@ fn say_limits() {
     named(b", of one ", limits.capacity as u64);
     named(b", count ", limits.count as u64);
     named(b", priority ", limits.priority as u64);
+    named(b", level ", limits.level as u64);
     named(b", addresses ", limits.addresses);
     named(b", units ", limits.finest as u64);
     named(b" to ", limits.coarsest as u64);

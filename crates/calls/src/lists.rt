@@ -1,8 +1,9 @@
 // The lists: runs S and Q of document 01, what refers tell, what is no call, numbers of 2^16 and more, forced sends
-// (request T-05), answers without room.
+// (request T-05), extended service calls (request T-03), answers without room.
 use crate::list::List;
 use crate::run::ANSWERS;
 use crate::run::show;
+use batch::asked::CAL_SVC;
 use batch::asked::FSND_DTQ;
 use batch::asked::POL_SEM;
 use batch::asked::PRCV_DTQ;
@@ -10,6 +11,7 @@ use batch::asked::PSND_DTQ;
 use batch::asked::RCV_DTQ;
 use batch::asked::REF_DTQ;
 use batch::asked::REF_SEM;
+use batch::asked::RET_SVC;
 use batch::asked::SAC_DTQ;
 use batch::asked::SAC_SEM;
 use batch::asked::SIG_SEM;
@@ -70,7 +72,7 @@ pub fn no_calls() {
     let mut list = List::EMPTY;
     list = list.with(0, 1, 1, 0);
     list = list.with(POL_SEM, 1, 1, 0);
-    list = list.with(13, 1, 1, 0);
+    list = list.with(15, 1, 1, 0);
     list = list.with(POL_SEM, 1, 1, 0);
     list = list.with(u32::MAX, 1, 1, 0);
     list = list.with(POL_SEM, 0, 1, 0);
@@ -165,6 +167,29 @@ pub fn forced_sends() {
     list = list.with(FSND_DTQ, 1, 2, 906);
     list = list.with(PSND_DTQ, 1, 2, 907);
     show(b"\n\nForced sends", list, ANSWERS);
+}
+
+// A denied task calls inside an extended service call and outside; object, word and vector of the calls on its level say nothing.
+pub fn service_calls() {
+    let mut list = List::EMPTY;
+    list = list.with(RET_SVC, 2, 0, 0);
+    list = list.with(PSND_DTQ, 2, 1, 910);
+    list = list.with(CAL_SVC, 2, u32::MAX, 65_536)
+        .patterns(1, 2, 3, u32::MAX);
+    list = list.with(PSND_DTQ, 2, 1, 911);
+    list = list.with(REF_DTQ, 2, 1, 0);
+    list = list.with(RCV_DTQ, 2, 2, 0);
+    list = list.with(CAL_SVC, 2, 0, 0);
+    list = list.with(RET_SVC, 2, 0, 0);
+    list = list.with(PSND_DTQ, 1, 2, 912);
+    list = list.with(RET_SVC, 2, u32::MAX, 7).patterns(9, 9, 9, 9);
+    list = list.with(PSND_DTQ, 2, 1, 913);
+    list = list.with(RET_SVC, 2, 0, 0);
+    list = list.with(CAL_SVC, u32::MAX, 1, 0);
+    list = list.with(CAL_SVC, 5, 1, 0);
+    list = list.with(PRCV_DTQ, 4, 1, 0);
+    list = list.with(PRCV_DTQ, 4, 1, 0);
+    show(b"\n\nExtended service calls", list, ANSWERS);
 }
 
 // Room for one answer and some words more.

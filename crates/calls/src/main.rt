@@ -14,6 +14,7 @@ fn main() {
     lists::large_numbers();
     lists::large_patterns();
     lists::forced_sends();
+    lists::service_calls();
     lists::short_answers();
     text(b"\n");
 }

@@ -1,9 +1,10 @@
-// A call's request, whatever the kind of its object.
+// A call's request: on an object of any kind, or on none.
 ghost use Rattle.command.specs.Shapes.{Small};
 use crate::dtq;
 use crate::numbers::Numbers;
 use crate::sem;
 use crate::shape::Shape;
+use crate::svc;
 use model::Request;
 
 // Each kind knows the numbers of its own requests.
@@ -13,6 +14,7 @@ pub fn shape_of(request: Request) -> Shape
     match request {
         Request::Semaphore(_, asked) => sem::shape_of(asked),
         Request::Queue(_, asked) => dtq::shape_of(asked),
+        Request::Extended(_) => svc::shape(),
     }
 }
 
@@ -24,5 +26,6 @@ pub fn with_numbers(request: Request, numbers: Numbers) -> Request {
             Request::Semaphore(id, sem::with_numbers(asked, numbers))
         }
         Request::Queue(_, asked) => Request::Queue(id, dtq::with_numbers(asked, numbers)),
+        Request::Extended(_) => request,
     }
 }

@@ -11,6 +11,7 @@ pub mod parse;
 pub mod request;
 pub mod sem;
 pub mod shape;
+pub mod svc;
 pub mod text;
 pub mod verb;
 pub mod word;

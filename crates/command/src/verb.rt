@@ -11,6 +11,7 @@ use crate::parse::Command;
 use crate::sem;
 use crate::shape::PATTERNS;
 use crate::shape::Shape;
+use crate::svc;
 use access::vector::Vector;
 use check::same;
 use itron::limit::MIN_UNIT;
@@ -44,6 +45,7 @@ pub fn command_of(word: &[u8]) -> Command {
         .or(sem::named(word))
         .or(dtq::named(word))
         .or(mem::named(word))
+        .or(svc::named(word))
 }
 
 // The numbers that a command takes follow from what it holds.

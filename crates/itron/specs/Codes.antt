@@ -3,7 +3,7 @@ use lib.IntN.{ℤ, pos, negsuc}
 
 -- the refusals
 pub data Err : Type 0 where
-  eRsatr ePar eId eCtx eMacv eOacv eIluse eNomem eNoid eObj eNoexs eQovr eTmout : Err
+  eSys eRsatr ePar eId eCtx eMacv eOacv eIluse eNomem eNoid eObj eNoexs eQovr eTmout : Err
 
 -- what a call answers: done, "waiting" (which is not a refusal and has no number), or a refusal
 pub data Code : Type 0 where
@@ -16,6 +16,7 @@ okNumber = pos 0
 
 -- the number of each refusal; negsuc k is -(k + 1)
 abbrev pub numberOf : Err → ℤ
+numberOf eSys = negsuc 4
 numberOf eRsatr = negsuc 10
 numberOf ePar = negsuc 16
 numberOf eId = negsuc 17

@@ -34,6 +34,10 @@ maxCount = 65535
 abbrev pub maxPriority : ℕ
 maxPriority = 16
 
+-- a task's level is a number from 0, outside every extended service call, to this (request T-03)
+abbrev pub maxLevel : ℕ
+maxLevel = 255
+
 -- 2^32, the first number that is no address
 abbrev pub addressEnd : ℕ
 addressEnd = 4294967296
@@ -48,4 +52,4 @@ maxUnitPower = 16
 
 -- all of them: what the program's numbers are tied to
 abbrev pub limits : Limits
-limits = record { domains = maxDomains; tasks = maxTasks; semaphores = maxSemaphores; queues = maxQueues; regions = maxRegions; words = maxWords; capacity = maxCapacity; count = maxCount; priority = maxPriority; addresses = addressEnd; finest = minUnit; coarsest = 2 ^ maxUnitPower }
+limits = record { domains = maxDomains; tasks = maxTasks; semaphores = maxSemaphores; queues = maxQueues; regions = maxRegions; words = maxWords; capacity = maxCapacity; count = maxCount; priority = maxPriority; level = maxLevel; addresses = addressEnd; finest = minUnit; coarsest = 2 ^ maxUnitPower }

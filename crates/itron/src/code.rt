@@ -1,6 +1,8 @@
 // Result codes (document 01, "Codes a desk clerk sees"): a refusal is a negative number.
 pub const E_OK: i32 = 0;
 
+pub const E_SYS: i32 = -5;
+
 pub const E_RSATR: i32 = -11;
 
 pub const E_PAR: i32 = -17;

@@ -1,4 +1,4 @@
-// The limits of documents 01 and 02 ("What the core holds", "Building the table"; requests T-06, T-07 and T-10), each written once.
+// The limits of documents 01 and 02 ("What the core holds", "Building the table"; requests T-03, T-06, T-07 and T-10), each written once.
 ghost use mathlib.Core.Path.{_≡_};
 ghost use Rattle.itron.specs.Limits as Specified;
 
@@ -25,6 +25,9 @@ pub const MAX_COUNT: u32 = 65_535;
 // The least urgent priority of a task; 1 is the most urgent.
 pub const MAX_PRIORITY: u32 = 16;
 
+// The highest level of a task: so many extended service calls deep.
+pub const MAX_LEVEL: u8 = 255;
+
 // The first number that is no address.
 pub const ADDRESS_END: u64 = 4_294_967_296;
 
@@ -45,6 +48,7 @@ pub struct Limits {
     pub capacity: u32,
     pub count: u32,
     pub priority: u32,
+    pub level: u8,
     pub addresses: u64,
     pub finest: u32,
     pub coarsest: u32,
@@ -65,6 +69,7 @@ impl Limits {
             capacity: MAX_CAPACITY,
             count: MAX_COUNT,
             priority: MAX_PRIORITY,
+            level: MAX_LEVEL,
             addresses: ADDRESS_END,
             finest: MIN_UNIT,
             coarsest: MAX_UNIT,

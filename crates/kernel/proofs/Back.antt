@@ -1,9 +1,12 @@
 -- View and form belong together, and every operation keeps the condition. Assumes nothing.
 use mathlib.Core.Path.{_≡_, sym, ap, _∙_, subst}
 use Prim.Native.Nat.{ℕ}
+use mathlib.Core.List.{List}
 use lib.IntN.{ℤ}
+use lib.ListN.{length}
 use Rattle.itron.specs.Codes.{Err, error}
 use Rattle.model.specs.State as Model
+use Rattle.model.specs.State.{TaskEntry}
 use Rattle.model.specs.Answers.{Out}
 use Rattle.model.specs.Table.{Entry, fresh, enter, close}
 use Rattle.model.specs.Calls.{Call, step}
@@ -14,6 +17,9 @@ use Rattle.model.proofs.Table.{sound-fresh, sound-enter, sound-close, enter-kep
 use Rattle.tasks.specs.declared.state.Tasks.{Tasks}
 use Rattle.tasks.specs.Held as TasksHeld
 use Rattle.tasks.proofs.Back as TasksBack
+use Rattle.levels.specs.View.{levelsOf}
+use Rattle.levels.specs.Form.{levelsAs}
+use Rattle.levels.proofs.Back.{back-levels}
 use Rattle.semaphore.specs.declared.state.Semaphores.{Semaphores}
 use Rattle.semaphore.specs.Held as SemsHeld
 use Rattle.semaphore.proofs.Back as SemsBack
@@ -37,11 +43,12 @@ pub back : (m : Model.State) → Fit m → viewOf (stateOf m) ≡ m
 back m f =
     let d = TasksBack.back-entries (m .fixed .tasks) (m .waits) (f .waits) in
     let w = TasksBack.back-waits (m .fixed .tasks) (m .waits) (f .waits) in
+    let l = ap (λ (es : List TaskEntry). levelsOf (length es) (levelsAs (m .levels))) d ∙ back-levels (length (m .fixed .tasks)) (m .levels) (f .levels .each) in
     let x = SemsBack.back-sems (m .sems) in
     let q = QueuesBack.back-queues (m .queues) (f .queues) in
     let u = RegionsBack.back-unit (m .fixed .unit) (m .fixed .regions) in
     let r = RegionsBack.back-regions (m .fixed .unit) (m .fixed .regions) in
-    λ i. record { fixed = record { closed = m .fixed .closed; count = m .fixed .count; unit = u i; tasks = d i; regions = r i }; waits = w i; sems = x i; queues = q i }
+    λ i. record { fixed = record { closed = m .fixed .closed; count = m .fixed .count; unit = u i; tasks = d i; regions = r i }; waits = w i; sems = x i; queues = q i; levels = l i }
 
 pub valid-form : (m : Model.State) → Sound m → Valid (stateOf m)
 valid-form m k =

@@ -10,7 +10,7 @@ use lib.ListN.{length}
 use borrow.Author.Tests.{ltb-true, leb-true, ne-eqb}
 use Rattle.access.specs.Domains.{ordinalOf}
 use Rattle.access.specs.declared.vector.Choice.{Choice}
-use Rattle.itron.specs.Codes.{Err, eRsatr, ePar, eId, eCtx, eMacv, eOacv, eIluse, eNomem, eNoid, eObj, eNoexs, eQovr, eTmout, numberOf, okNumber}
+use Rattle.itron.specs.Codes.{Err, eSys, eRsatr, ePar, eId, eCtx, eMacv, eOacv, eIluse, eNomem, eNoid, eObj, eNoexs, eQovr, eTmout, numberOf, okNumber}
 use Rattle.itron.specs.Limits.{maxDomains, maxTasks, maxWords, minUnit}
 use Rattle.model.specs.State as Model
 use Rattle.model.specs.Answers.{resultOf, refuseIf}
@@ -35,6 +35,7 @@ use Rattle.kernel.proofs.Back.{enters-entry}
 
 -- ---- results of checks
 not-ok : (e : Err) → numberOf e ≡ okNumber → ⊥
+not-ok eSys h = let z : _≡_ {A = ℕ} 0 1 = cc in omega arith
 not-ok eRsatr h = let z : _≡_ {A = ℕ} 0 1 = cc in omega arith
 not-ok ePar h = let z : _≡_ {A = ℕ} 0 1 = cc in omega arith
 not-ok eId h = let z : _≡_ {A = ℕ} 0 1 = cc in omega arith

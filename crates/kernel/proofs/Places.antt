@@ -37,6 +37,11 @@ module _ (m : State) where
   order-on-sem receiving n t e = absurd (omega arith)
   order-on-sem sending n t e = absurd (omega arith)
 
+  pub order-receiving : (d : Side) (n : ℕ) → OneOf (1 ∷ []) (tagOf side-type d) → false ≡ orderOf m d n
+  order-receiving onSem n t = absurd (omega arith)
+  order-receiving receiving n t = refl
+  order-receiving sending n t = absurd (omega arith)
+
   pub order-sending : (d : Side) (n : ℕ) → OneOf (2 ∷ []) (tagOf side-type d) → {b : Bool} → b ≡ byPriority (queueAt m n .attribute) → b ≡ orderOf m d n
   order-sending onSem n t e = absurd (omega arith)
   order-sending receiving n t e = absurd (omega arith)

@@ -10,8 +10,8 @@ use Rattle.access.specs.declared.vector.Operation.{Operation}
 use Rattle.itron.specs.Codes.{Err, eCtx, eNoid, eId, eNoexs, eOacv, numberOf}
 use Rattle.model.specs.Lists.{index}
 use Rattle.model.specs.State as Model
-use Rattle.model.specs.State.{domainAt, no}
-use Rattle.model.specs.Answers.{refuseIf}
+use Rattle.model.specs.State.{runningAt, no}
+use Rattle.model.specs.Answers.{Out, codeOf, refuseIf}
 use Rattle.model.specs.Acts.{Act}
 use Rattle.model.specs.Rooms.{Room, ready, check}
 use Rattle.model.specs.Checks.{checked}
@@ -22,6 +22,9 @@ use Rattle.model.specs.declared.check.Target.the-variants.{OutOfRange, Missing,
 use Rattle.tasks.specs.declared.state.Tasks.{Tasks}
 use Rattle.tasks.specs.declared.wait.Caller.{Caller}
 use Rattle.tasks.specs.declared.wait.Caller.the-variants as Caller
+use Rattle.levels.specs.declared.state.Levels.{Levels}
+use Rattle.levels.specs.declared.call.Effect.{Effect}
+use Rattle.levels.specs.Form.{levelsAs}
 use Rattle.semaphore.specs.declared.state.Semaphores.{Semaphores}
 use Rattle.dataqueue.specs.declared.state.Queues.{Queues}
 use Rattle.regions.specs.declared.state.Regions.{Regions}
@@ -30,26 +33,29 @@ use Rattle.kernel.specs.View.{viewOf}
 
 -- ---- the state with another part
 abbrev pub withTasks : State → Tasks → State
-withTasks s t = record { domains = s .domains; closed = s .closed; tasks = t; semaphores = s .semaphores; queues = s .queues; regions = s .regions }
+withTasks s t = record { domains = s .domains; closed = s .closed; tasks = t; levels = s .levels; semaphores = s .semaphores; queues = s .queues; regions = s .regions }
+
+abbrev pub withLevels : State → Levels → State
+withLevels s x = record { domains = s .domains; closed = s .closed; tasks = s .tasks; levels = x; semaphores = s .semaphores; queues = s .queues; regions = s .regions }
 
 abbrev pub withSemaphores : State → Semaphores → State
-withSemaphores s x = record { domains = s .domains; closed = s .closed; tasks = s .tasks; semaphores = x; queues = s .queues; regions = s .regions }
+withSemaphores s x = record { domains = s .domains; closed = s .closed; tasks = s .tasks; levels = s .levels; semaphores = x; queues = s .queues; regions = s .regions }
 
 abbrev pub withQueues : State → Queues → State
-withQueues s x = record { domains = s .domains; closed = s .closed; tasks = s .tasks; semaphores = s .semaphores; queues = x; regions = s .regions }
+withQueues s x = record { domains = s .domains; closed = s .closed; tasks = s .tasks; levels = s .levels; semaphores = s .semaphores; queues = x; regions = s .regions }
 
 abbrev pub withRegions : State → Regions → State
-withRegions s x = record { domains = s .domains; closed = s .closed; tasks = s .tasks; semaphores = s .semaphores; queues = s .queues; regions = x }
+withRegions s x = record { domains = s .domains; closed = s .closed; tasks = s .tasks; levels = s .levels; semaphores = s .semaphores; queues = s .queues; regions = x }
 
 abbrev pub shut : State → State
-shut s = record { domains = s .domains; closed = true; tasks = s .tasks; semaphores = s .semaphores; queues = s .queues; regions = s .regions }
+shut s = record { domains = s .domains; closed = true; tasks = s .tasks; levels = s .levels; semaphores = s .semaphores; queues = s .queues; regions = s .regions }
 
 -- ---- the checks
--- a registered ready task of a closed table
+-- a registered ready task of a closed table, with the domain as which it runs
 abbrev pub callerIn : Model.State → ℕ → Caller
-callerIn m t = cond (m .fixed .closed && ready m t) (Caller.Ready (index t) (domainAt m t)) Caller.Nobody
+callerIn m t = cond (m .fixed .closed && ready m t) (Caller.Ready (index t) (runningAt m t)) Caller.Nobody
 
--- first hit wins: who calls, which object, and whether the caller's domain is admitted
+-- first hit wins: who calls, which object, and whether the caller's running domain is admitted
 abbrev pub checkedBy : Caller → Operation → Target → Check
 checkedBy Caller.Nobody o x = Refused (numberOf eCtx)
 checkedBy (Caller.Ready t d) o OutOfRange = Refused (numberOf eId)
@@ -59,6 +65,10 @@ checkedBy (Caller.Ready t d) o (At n v) = cond (admitted (patternOf v o) d) (Adm
 -- what the checks give for an act of task z on the object n
 abbrev pub checkOf : {C R : Type 0} → Room C R → State → ℤ → ℤ → Act C → Check
 checkOf r s z n a = checked (check r (viewOf s) (no z) (no n) a) (no z) (no n)
+
+-- ---- what a call on the caller's level gives: its code and the levels after it
+abbrev pub levelsGiven : Out → Effect
+levelsGiven o = record { code = codeOf (o .answer .code); levels = levelsAs (o .state .levels) }
 
 -- ---- steps 1 to 3 of an entry's checks
 abbrev pub opening : Bool → ℕ → ℕ → Bool → Option Err

@@ -1,6 +1,8 @@
 -- What is seen of a state: the model's state that it stands for. Definitions only.
+use lib.ListN.{length}
 use Rattle.model.specs.State as Model
 use Rattle.tasks.specs.View.{entriesOf, waitsOf}
+use Rattle.levels.specs.View.{levelsOf}
 use Rattle.semaphore.specs.View.{semsOf}
 use Rattle.dataqueue.specs.View.{queuesOf}
 use Rattle.regions.specs.View.{regionsOf}
@@ -13,4 +15,5 @@ viewOf s =
       waits = waitsOf (s .tasks);
       sems = semsOf (s .semaphores);
       queues = queuesOf (s .queues);
+      levels = levelsOf (length (entriesOf (s .tasks))) (s .levels);
     }

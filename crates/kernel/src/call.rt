@@ -1,4 +1,4 @@
-// Any call, by what is asked of which object: the one dispatcher.
+// Any call, by what is asked of which object or of the caller's level: the one dispatcher.
 ghost use Rattle.model.specs.Calls.{call, opOf};
 ghost use Rattle.kernel.specs.Valid.{Valid};
 ghost use Rattle.kernel.specs.Promises.{Does};
@@ -14,6 +14,7 @@ impl State {
         match request {
             Request::Semaphore(id, asked) => self.on_semaphore(caller, id, asked),
             Request::Queue(id, asked) => self.on_queue(caller, id, asked),
+            Request::Extended(asked) => self.on_level(caller, asked),
         }
     }
 }

@@ -5,6 +5,7 @@ ghost use Rattle.kernel.specs.View.{viewOf};
 ghost use Rattle.kernel.specs.Valid.{Valid};
 ghost use Rattle.kernel.specs.Inside.{callerIn, checkedBy};
 use crate::state::State;
+use access::domain::running;
 use access::pattern::admits;
 use access::vector::Operation;
 use itron::code::E_CTX;
@@ -16,7 +17,7 @@ use model::check::Target;
 use tasks::wait::Caller;
 
 impl State {
-    // A registered ready task of a closed table.
+    // A registered ready task of a closed table, with the domain as which it runs.
     pub(crate) fn caller(self, number: i32) -> Caller
         requires { ⌜ Valid self ⌝ }
         ensures { λ r. ⌜ r ≡ callerIn (viewOf self) (no number) ⌝ }
@@ -25,7 +26,11 @@ impl State {
             return Caller::Nobody;
         }
         let tasks = self.tasks;
-        tasks.caller(number)
+        let Caller::Ready(task, domain) = tasks.caller(number) else {
+            return Caller::Nobody;
+        };
+        let levels = self.levels;
+        Caller::Ready(task, running(domain, levels.level(task)))
     }
 
     // First hit wins.

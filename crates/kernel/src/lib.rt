@@ -6,4 +6,5 @@ pub mod mem;
 pub mod query;
 pub mod sem;
 pub mod state;
+pub mod svc;
 pub mod table;

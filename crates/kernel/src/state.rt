@@ -2,6 +2,7 @@
 ghost use mathlib.Core.Path.{_≡_};
 ghost use Rattle.kernel.specs.Answers.{entered};
 use dataqueue::state::Queues;
+use levels::state::Levels;
 use model::Info;
 use model::Outcome;
 use model::Released;
@@ -15,6 +16,7 @@ pub struct State {
     pub(crate) domains: usize,
     pub(crate) closed: bool,
     pub(crate) tasks: Tasks,
+    pub(crate) levels: Levels,
     pub(crate) semaphores: Semaphores,
     pub(crate) queues: Queues,
     pub(crate) regions: Regions,

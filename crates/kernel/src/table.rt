@@ -21,6 +21,7 @@ use itron::code::E_PAR;
 use itron::limit::MAX_DOMAINS;
 use itron::limit::MAX_TASKS;
 use itron::limit::MIN_UNIT;
+use levels::state::Levels;
 use regions::state::Regions;
 use regions::unit::is_unit;
 use semaphore::state::Semaphores;
@@ -46,6 +47,7 @@ impl State {
             domains,
             closed: false,
             tasks: Tasks::empty(),
+            levels: Levels::outside(),
             semaphores: Semaphores::empty(),
             queues: Queues::empty(),
             regions: Regions::empty(unit),

@@ -19,7 +19,7 @@ use Rattle.kernel.specs.Answers.{answerOf}
 use Rattle.kernel.specs.Promises.{Enters, Does, Tells}
 use Rattle.laws.specs.Runs.{Built, begun, entered, taken, Said, Ran}
 use Rattle.laws.specs.Claims.{DeniesExactly}
-use Rattle.laws.proofs.Runs.{state-of}
+use Rattle.laws.proofs.Runs.{just-closed, state-of}
 
 -- ---- the vectors of a table that was built and closed are its entries'
 gave : {s : State} (b : Built s) → Gave (taken b) (viewOf s)
@@ -37,8 +37,8 @@ answer-is (inr d) = d .same
 pub denies : {s₀ s : State} {r₀ : Entered} {cs : List Call} {l : List Said} (b : Built s₀) → Enters s₀ (close (viewOf s₀)) r₀ → Ran (r₀ .state) cs s l
     → (c : Call) (r : Answer) → Does s c r ⊎ Tells s c r → DeniesExactly b (r₀ .state) s cs c r
 denies {s} {r₀} {cs} b g h c r d = record {
-  only = λ q. subst Denied (sym (state-of h)) (denied-only (taken b) m (gave-closed b g) cs (c .caller) (c .op) (apart _ (error eOacv) (sym shown ∙ q)));
-  always = λ q. shown ∙ ap outcomeOf (denied-always (taken b) m (gave-closed b g) cs (c .caller) (c .op) (subst Denied (state-of h) q));
+  only = λ q. subst Denied (sym (state-of h)) (denied-only (taken b) m (gave-closed b g) (just-closed b g) cs (c .caller) (c .op) (apart _ (error eOacv) (sym shown ∙ q)));
+  always = λ q. shown ∙ ap outcomeOf (denied-always (taken b) m (gave-closed b g) (just-closed b g) cs (c .caller) (c .op) (subst Denied (state-of h) q));
 }
   where
     m : Model.State

@@ -18,7 +18,8 @@ use Rattle.model.specs.Acts.{own, refer, setVector}
 use Rattle.model.specs.declared.sem.SemaphoreCall.the-variants.{Signal as signal, Acquire as acquire}
 use Rattle.model.specs.declared.dtq.QueueCall.the-variants.{Send as send, Receive as receive, ForcedSend as forcedSend}
 use Rattle.model.specs.declared.Patience.the-variants.{Polling, Forever}
-use Rattle.model.specs.Calls.{Call, call, onSemaphore, onQueue, asks}
+use Rattle.model.specs.declared.svc.ExtendedCall.the-variants.{Enter, Leave}
+use Rattle.model.specs.Calls.{Call, call, onSemaphore, onQueue, onLevel, asks}
 use Rattle.model.proofs.Numbers.{refusal-negative}
 use Rattle.model.proofs.Entries.{fresh-takes, fresh-above, fresh-below}
 use Rattle.kernel.specs.declared.state.State.{State}
@@ -70,7 +71,7 @@ module _ (s₀ : State) (cs : List Call) (s : State) (l : List Said) (h : Ran s�
   pub every-refer : asks (c .op) .isRefer ≡ true → Tells s c r → Ran s₀ (c ∷ cs) (r .state) (whole-answer ∷ l)
   every-refer e d = refers cs s l h c e r d
 
--- ---- one run: n = 2, a task of domain 3, which is refused, one closing, then a call of each kind, in document 01's order, and the forced send (request T-05)
+-- ---- one run: n = 2, a task of domain 3, which is refused, one closing, then a call of each kind, in document 01's order, then the forced send (request T-05), entering and leaving (request T-03)
 abbrev signals : Call
 signals = call (pos 1) (onSemaphore (pos 1) (own signal))
 
@@ -107,9 +108,15 @@ setsQueue = call (pos 1) (onQueue (pos 1) (setVector (privateOf (pos 1))))
 abbrev forces : Call
 forces = call (pos 1) (onQueue (pos 1) (own (forcedSend 700)))
 
+abbrev enters : Call
+enters = call (pos 1) (onLevel Enter)
+
+abbrev leaves : Call
+leaves = call (pos 1) (onLevel Leave)
+
 -- the newest first
 abbrev each : List Call
-each = forces ∷ setsQueue ∷ refersToQueue ∷ receives ∷ pollReceives ∷ sends ∷ pollSends ∷ setsSemaphore ∷ refersToSemaphore ∷ waits ∷ polls ∷ signals ∷ []
+each = leaves ∷ enters ∷ forces ∷ setsQueue ∷ refersToQueue ∷ receives ∷ pollReceives ∷ sends ∷ pollSends ∷ setsSemaphore ∷ refersToSemaphore ∷ waits ∷ polls ∷ signals ∷ []
 
 -- the state that a call gets: from the first one s, from each other what the answer before gave
 abbrev stateAt : State → (ℕ → Answer) → ℕ → State
@@ -130,12 +137,14 @@ pub record EachKind (s : State) (a : ℕ → Answer) : Type 0 where
   pub queueTold : Tells (stateAt s a 9) refersToQueue (a 9)
   pub queueSet : Does (stateAt s a 10) setsQueue (a 10)
   pub forced : Does (stateAt s a 11) forces (a 11)
+  pub entered : Does (stateAt s a 12) enters (a 12)
+  pub left : Does (stateAt s a 13) leaves (a 13)
 
 abbrev saidTo : (ℕ → Answer) → ℕ → List Said
 saidTo a zero = []
 saidTo a (suc k) = saidBy (a k) ∷ saidTo a k
 
-each-ran : (s : State) (a : ℕ → Answer) → EachKind s a → Ran s each (a 11 .state) (saidTo a 12)
+each-ran : (s : State) (a : ℕ → Answer) → EachKind s a → Ran s each (a 13 .state) (saidTo a 14)
 each-ran s a k =
     let h₁ = calls _ _ _ start signals (a 0) (k .signalled) in
     let h₂ = calls _ _ _ h₁ polls (a 1) (k .polled) in
@@ -148,11 +157,13 @@ each-ran s a k =
     let h₉ = calls _ _ _ h₈ receives (a 8) (k .received) in
     let h₁₀ = refers _ _ _ h₉ refersToQueue refl (a 9) (k .queueTold) in
     let h₁₁ = calls _ _ _ h₁₀ setsQueue (a 10) (k .queueSet) in
-    calls _ _ _ h₁₁ forces (a 11) (k .forced)
+    let h₁₂ = calls _ _ _ h₁₁ forces (a 11) (k .forced) in
+    let h₁₃ = calls _ _ _ h₁₂ enters (a 12) (k .entered) in
+    calls _ _ _ h₁₃ leaves (a 13) (k .left)
 
 -- the entry is refused by E_ID (-18), and demand 3 holds of the run
 pub full-run : (r₀ r₁ r₂ : Entered) → Begins (pos 2) minUnit r₀ → Enters (r₀ .state) (enter (viewOf (r₀ .state)) (task (pos 3) 1)) r₁ → Enters (r₁ .state) (close (viewOf (r₁ .state))) r₂
-    → (a : ℕ → Answer) → EachKind (r₂ .state) a → (r₁ .code ≡ negℤ (pos 18)) × Whole (r₂ .state) (a 11 .state) each (saidTo a 12)
+    → (a : ℕ → Answer) → EachKind (r₂ .state) a → (r₁ .code ≡ negℤ (pos 18)) × Whole (r₂ .state) (a 13 .state) each (saidTo a 14)
 unfolding enter fresh unitOk
 full-run r₀ r₁ r₂ b e g a k = (
   ap (λ (r : Entered). r .code) (e .same) ∙ ap (λ (m : Model.State). codeOf (enter m (task (pos 3) 1) .answer .code)) (b .seen),

@@ -1,5 +1,5 @@
 -- What the claims about runs say, in plain facts: whatever the run, the task, the object and the word. Assumes nothing.
-use Prim.Native.Nat.{ℕ, suc, _≤_}
+use Prim.Native.Nat.{ℕ, suc, _-_, _≤_, _<_}
 use native.Mathlib.Omega.{arith}
 use mathlib.Core.Path.{_≡_, refl, sym, ap, _∙_, subst}
 use mathlib.Core.Logic.{inl, inr}
@@ -9,8 +9,9 @@ use mathlib.Core.Option.{some}
 use lib.IntN.{ℤ, pos, negsuc, negℤ}
 use lib.ListN.{length, drop}
 use lib.Seq.{drop-length}
+use Rattle.access.specs.Domains.{runningOf}
 use Rattle.access.specs.Patterns.{admitted}
-use Rattle.access.proofs.Laws.{kernel-always, zeros-kernel-only}
+use Rattle.access.proofs.Laws.{kernel-always, zeros-kernel-only, running-kernel, inside-admitted}
 use Rattle.itron.specs.Codes.{Code, ok, waiting}
 use Rattle.model.specs.State.{Place, Waiter, place, waiter, semAt, queueAt, domainAt, priorityAt, no}
 use Rattle.model.specs.Answers.{outcomeOf}
@@ -28,12 +29,14 @@ use Rattle.model.specs.declared.sem.SemaphoreCall.{SemaphoreCall}
 use Rattle.model.specs.declared.sem.SemaphoreCall.the-variants.{Signal as signal}
 use Rattle.model.specs.declared.dtq.QueueCall.{QueueCall}
 use Rattle.model.specs.declared.dtq.QueueCall.the-variants.{Send as send, Receive as receive, ForcedSend as forcedSend}
-use Rattle.model.specs.Calls.{Op, onSemaphore, onQueue, Call, call, step}
+use Rattle.model.specs.declared.svc.ExtendedCall.{ExtendedCall}
+use Rattle.model.specs.Calls.{Op, onSemaphore, onQueue, onLevel, Call, call, step}
 use Rattle.model.specs.Lists.{Some, total, arrange}
 use Rattle.model.specs.History.{event, after, history, without}
 use Rattle.model.specs.Demand3.{Demand3}
 use Rattle.model.specs.Turns.{countIf, countAt, serves}
-use Rattle.model.specs.Denials.{Ready, InRange, There, patternSince}
+use Rattle.model.specs.LevelClaims.{entersBy, leavesBy, byNone}
+use Rattle.model.specs.Denials.{Ready, OnObject, InRange, There, patternSince}
 use Rattle.model.proofs.Lists.{no-both}
 use Rattle.model.proofs.WaitQueues as WaitQueues
 use Rattle.model.proofs.Numbers.{apart}
@@ -144,9 +147,21 @@ module _ {t : State} {b : Built t} {s₀ s : State} {cs : List Call} {c : Call} 
   abbrev patternThen : ℕ
   patternThen = patternSince (taken b) (history (viewOf s₀) cs) (c .op)
 
+  -- its caller's accepted enters before it less its accepted leaves
+  abbrev levelThen : ℕ
+  levelThen = total (entersBy (no (c .caller))) (byNone (history (viewOf s₀) cs)) - total (leavesBy (no (c .caller))) (byNone (history (viewOf s₀) cs))
+
   -- "The kernel domain is always admitted"
   pub kernel-never-denied : domainAt (viewOf s) (no (c .caller)) ≡ negsuc 0 → Denied → ⊥
-  kernel-never-denied k o = no-both (ap (admitted patternThen) k ∙ kernel-always patternThen) (d .only o .denied)
+  kernel-never-denied k o = no-both (ap (λ (z : ℤ). admitted patternThen (runningOf z levelThen)) k ∙ ap (admitted patternThen) (running-kernel levelThen) ∙ kernel-always patternThen) (d .only o .denied)
+
+  -- "above 0 the caller counts as the kernel domain" (request T-03), by its accepted enters and leaves
+  pub inside-never-denied : 0 < levelThen → Denied → ⊥
+  inside-never-denied h o = no-both (inside-admitted patternThen (domainAt (viewOf s) (no (c .caller))) levelThen h) (d .only o .denied)
+
+  -- entering and leaving is denied to nobody
+  pub level-never-denied : (x : ExtendedCall) → c .op ≡ onLevel x → Denied → ⊥
+  level-never-denied x e o = subst OnObject e (d .only o .object)
 
   -- "Giving E_OACV for a number that isn't registered" is a slip
   pub denied-registered : (n : ℤ) → ((a : Act SemaphoreCall) → c .op ≡ onSemaphore n a → Denied → no n ≤ length (viewOf s .sems)) × ((a : Act QueueCall) → c .op ≡ onQueue n a → Denied → no n ≤ length (viewOf s .queues))
@@ -156,9 +171,9 @@ module _ {t : State} {b : Built t} {s₀ s : State} {cs : List Call} {c : Call} 
   pub denied-ready : Denied → Ready (viewOf s) (no (c .caller))
   denied-ready o = d .only o .ready
 
-  -- "All zeros is kernel only": a user domain's call on a registered object whose pattern is 0 then is denied
-  pub zeros-deny : (k : ℕ) → domainAt (viewOf s) (no (c .caller)) ≡ pos (suc k) → patternThen ≡ 0 → Ready (viewOf s) (no (c .caller)) → InRange (viewOf s) (c .op) → There (viewOf s) (c .op) → Denied
-  zeros-deny k e z y i j = d .always (record { ready = y; numbered = i; there = j; denied = ap (λ (p : ℕ). admitted p (domainAt (viewOf s) (no (c .caller)))) z ∙ ap (admitted 0) e ∙ go (admitted 0 (pos (suc k))) refl })
+  -- "All zeros is kernel only": a user domain's call, outside extended service calls, on a registered object whose pattern is 0 then is denied
+  pub zeros-deny : (k : ℕ) → domainAt (viewOf s) (no (c .caller)) ≡ pos (suc k) → levelThen ≡ 0 → patternThen ≡ 0 → OnObject (c .op) → Ready (viewOf s) (no (c .caller)) → InRange (viewOf s) (c .op) → There (viewOf s) (c .op) → Denied
+  zeros-deny k e l z x y i j = d .always (record { object = x; ready = y; numbered = i; there = j; denied = (λ n. admitted (z n) (runningOf (e n) (l n))) ∙ go (admitted 0 (pos (suc k))) refl })
     where
       go : (x : Bool) → admitted 0 (pos (suc k)) ≡ x → x ≡ false
       go true q = let f : pos (suc k) ≡ negsuc 0 = zeros-kernel-only (pos (suc k)) q in cc

@@ -11,7 +11,7 @@ use Rattle.access.specs.Patterns.{admitted}
 use Rattle.itron.specs.Codes.{Err}
 use Rattle.itron.specs.Limits.{maxDomains}
 use Rattle.model.specs.State as Model
-use Rattle.model.specs.State.{Place, Waiter, noQueue, domainAt}
+use Rattle.model.specs.State.{Place, Waiter, noQueue, runningAt}
 use Rattle.model.specs.Answers.{done}
 use Rattle.model.specs.Waits.{waitersAt}
 use Rattle.model.specs.Table.{Entry, task, sem, queue, region, fresh, freshBy, enter, enterBy, add, checkEntry, close, closeBy, shut}
@@ -41,7 +41,7 @@ use Rattle.kernel.specs.Promises.{Enters, Does}
 use Rattle.laws.specs.Runs.{Built, begun, entered, Said, saidBy, saidIn, Ran, start, calls, refers}
 use Rattle.laws.specs.Claims.{Whole, TakesTurns}
 
--- ---- before the closing nobody waits and nothing is buffered: the table is open, and the condition says the rest
+-- ---- before the closing nobody waits, nothing is buffered and every task is at level 0: the table is open, and the condition says the rest
 pub record Idle (s : Model.State) : Type 0 where
   pub isOpen : s .fixed .closed ≡ false
   pub sound : Sound s
@@ -84,7 +84,7 @@ closes {s} b = ap (λ (c : Bool). closeBy c (viewOf s)) (idle b .isOpen)
 -- so it is with a table just closed
 pub idle-closed : (s : Model.State) → Idle s → JustClosed (close s .state)
 unfolding close
-idle-closed s k = subst (λ (c : Bool). JustClosed (closeBy c s .state)) (sym (k .isOpen)) (record { noWaits = k .sound .quiet (k .isOpen); noWords = λ q. all-any NoWords noQueue refl (s .queues) q (k .sound .empty (k .isOpen)) })
+idle-closed s k = subst (λ (c : Bool). JustClosed (closeBy c s .state)) (sym (k .isOpen)) (record { noWaits = k .sound .quiet (k .isOpen); noWords = λ q. all-any NoWords noQueue refl (s .queues) q (k .sound .empty (k .isOpen)); outside = k .sound .outside (k .isOpen) })
 
 pub just-closed : {s : State} {r : Entered} → Built s → Enters s (close (viewOf s)) r → JustClosed (viewOf (r .state))
 just-closed {s} b g = subst (λ (m : Model.State). JustClosed m) (sym (g .seen)) (idle-closed (viewOf s) (idle b))
@@ -146,5 +146,5 @@ turns {s₁} v p u e ahead behind w = record { still = still; served = served }
         ∙ one (step (after (viewOf s₁) cs) c .answer .released) (t .served cs c n (subst (λ (x : Model.State). serves p (event x c) ≡ 1) m o))
 
 -- ---- "Bits for domains above n are accepted and admit nobody": they decide nothing for whoever can call, in any state of the program
-pub nobody-above : {s : State} → Valid s → (t p : ℕ) → Ready (viewOf s) t → admitted (p % 2 ^ (viewOf s .fixed .count)) (domainAt (viewOf s) t) ≡ admitted p (domainAt (viewOf s) t)
+pub nobody-above : {s : State} → Valid s → (t p : ℕ) → Ready (viewOf s) t → admitted (p % 2 ^ (viewOf s .fixed .count)) (runningAt (viewOf s) t) ≡ admitted p (runningAt (viewOf s) t)
 nobody-above {s} v t p r = above-nobody (viewOf s) t p (v .sound) r

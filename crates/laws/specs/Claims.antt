@@ -39,7 +39,7 @@ pub record TakesTurns (s₁ : State) (p : Place) (e : Waiter) (ahead : List Wait
 
 -- "E_OACV exactly when denied": of a call c in the state s, after the entries that the table b took and the calls cs from the closed table s₀ on, answered r
 pub record DeniesExactly {t : State} (b : Built t) (s₀ s : State) (cs : List Call) (c : Call) (r : Answer) : Type 0 where
-  -- who gets E_OACV (-27) is denied: the earlier checks pass, and the pattern of the last accepted set-vector, or else of the entry, does not admit the caller's domain
+  -- who gets E_OACV (-27) is denied: the earlier checks pass, and the pattern of the last accepted set-vector, or else of the entry, does not admit the caller's running domain
   pub only : r .outcome ≡ Outcome.Code (negℤ (pos 27)) → DeniedSince (taken b) (history (viewOf s₀) cs) (viewOf s) (c .caller) (c .op)
   -- and who is denied gets it
   pub always : DeniedSince (taken b) (history (viewOf s₀) cs) (viewOf s) (c .caller) (c .op) → r .outcome ≡ Outcome.Code (negℤ (pos 27))

@@ -1,17 +1,19 @@
 -- What the condition says of every state, in plain facts: whatever the object and wherever it stands. Assumes nothing.
-use mathlib.Core.Path.{_≡_, refl, ap, subst}
+use mathlib.Core.Path.{_≡_, refl, ap, _∙_, subst}
 use mathlib.Core.Logic.{_≢_, _⊎_, inl, inr}
 use mathlib.Core.Bool.{true, false, not}
 use mathlib.Core.List.{List, [], _∷_, _++_}
 use Prim.Native.Nat.{ℕ, zero, suc, _+_, _^_, _≤_, _∣_}
 use lib.IntN.{ℤ, pos, negsuc}
 use lib.ListN.{length}
-use Rattle.itron.specs.Limits.{maxDomains, maxTasks, maxPriority, maxSemaphores, maxQueues, maxRegions, maxWords, maxCount, maxCapacity, addressEnd, maxUnitPower}
-use Rattle.model.specs.State.{TaskEntry, Sem, Queue, Region, Waiter, Side, onSem, receiving, sending, State, place, waiter, semAt, queueAt}
+use Rattle.itron.specs.Limits.{maxDomains, maxTasks, maxPriority, maxLevel, maxSemaphores, maxQueues, maxRegions, maxWords, maxCount, maxCapacity, addressEnd, maxUnitPower}
+use Rattle.model.specs.Lists.{at}
+use Rattle.model.specs.State.{TaskEntry, Sem, Queue, Region, Waiter, Side, onSem, receiving, sending, State, place, waiter, semAt, queueAt, levelAt}
 use Rattle.model.specs.Waits.{waitersAt, isOther, absent}
 use Rattle.model.specs.Queues.{wordsUsed}
 use Rattle.model.specs.Conditions.{Distinct, Known, WordFits, Plain, BufferFits, Bounded, Ascending, Whole, TaskOwner, Owner, TaskEntryFits, SemEntryFits, QueueEntryFits, RegionEntryFits, sideCount, Registered, NoWords, Sound}
 use Rattle.model.proofs.Units.{unit-tells}
+use Rattle.model.proofs.LevelClaims.{none-inside}
 use Rattle.model.proofs.Places.{all-each}
 use Rattle.model.proofs.Lists.{cons-ne, no-both, eqb-same, and-left, and-right}
 
@@ -120,6 +122,16 @@ module _ (s : State) (k : Sound s) where
   -- the unit is a power of two up to its limit
   pub unit-power : (e : ℕ) × ((e ≤ maxUnitPower) × (s .fixed .unit ≡ 2 ^ e))
   unit-power = unit-tells (s .fixed .unit) .yes (k .unit .power)
+
+  -- ---- levels: each task has one, from 0 to its limit; before the closing it is 0
+  pub level-each : length (s .levels) ≡ length (s .fixed .tasks)
+  level-each = k .fit .levels .each
+
+  pub level-bounded : (a : List ℕ) (n : ℕ) (b : List ℕ) → s .levels ≡ a ++ n ∷ b → n ≤ maxLevel
+  level-bounded a n b h = all-each (λ (n : ℕ). n ≤ maxLevel) (s .levels) a b n h (k .fit .levels .bounded)
+
+  pub open-outside : s .fixed .closed ≡ false → (t : ℕ) → levelAt s t ≡ 0
+  open-outside o t = ap (λ (l : List ℕ). at 0 l t) (k .outside o) ∙ none-inside (s .fixed .tasks) t
 
   -- ---- before the closing nobody waits and nothing is buffered
   pub open-quiet : s .fixed .closed ≡ false → (s .waits ≡ []) × ((a : List Queue) (x : Queue) (b : List Queue) → s .queues ≡ a ++ x ∷ b → x .buffer ≡ [])

@@ -4,6 +4,7 @@ use mathlib.Core.Bool.{Bool, true, false}
 use mathlib.Core.List.{List, [], _∷_}
 use mathlib.Core.Option.{Option, none, some}
 use Prim.Native.Nat.{ℕ, _≤_}
+use native.Mathlib.Omega.{arith}
 use lib.Dec.{eqb}
 use lib.IntN.{ℤ}
 use lib.ListN.{length}
@@ -14,10 +15,12 @@ use Rattle.model.specs.Answers.{Answer, Effect, Out, out, say, refuse, t
 use Rattle.model.specs.Waits.{standing, waitersAt, waitQueue, firstTask, leave, join, freed}
 use Rattle.model.specs.Acts.{Act, own, refer, setVector, isRefer}
 use Rattle.model.specs.Rooms.{Room, check, actOn, onRecords, setVectorOf, Asks, onObject}
-use Rattle.model.specs.Calls.{Op, onSemaphore, onQueue, Call, asks, actIf, step}
-use Rattle.model.specs.History.{event, Made, seenBy, askedIf, vectorBy}
+use Rattle.model.specs.Calls.{Op, onSemaphore, onQueue, onLevel, Call, asks, actIf, step}
+use Rattle.model.specs.ExtendedCalls as Extended
+use Rattle.model.specs.ExtendedCalls.{ExtendedCall, ofLevel}
+use Rattle.model.specs.History.{event, Made, seenBy, askedIf, extendedOf, vectorBy}
 use Rattle.model.specs.Conditions.{Plain, Registered}
-use Rattle.model.proofs.Lists.{eq-of, ne-of, Distinct, all-alike}
+use Rattle.model.proofs.Lists.{eq-of, ne-of, no-both, Distinct, all-alike}
 use Rattle.model.proofs.Endings.{Vacant, SameBut, Ends}
 use Rattle.model.proofs.Endings as Ended
 use Rattle.model.proofs.Rooms.{RoomLaws, Calls, Passed, passed, Stranger, isAt, room-at, other-number, own-same, is-refer, waits-apart, stays, vectors, act-not-denied}
@@ -99,9 +102,26 @@ module _ {C R : Type 0} {r : Room C R} (l : RoomLaws r) (n : ℤ) where
     tells-second = λ s m h. l .told-second (s .fixed .tasks) (s .waits) (r .records s) (no n) m h;
   }
 
+-- a call on the caller's level
+levels-closed : (s : State) (t : ℕ) (c : ExtendedCall) → s .fixed .closed ≡ false → Extended.check s t c ≡ some eCtx
+unfolding Extended.check
+levels-closed s t c h = rw h
+
+lawful-level : (c : ExtendedCall) → Lawful (ofLevel c)
+lawful-level c = record {
+  ends = λ s P es t h. es .gives t (ofLevel c) _ 0 (record { fixed = refl; waits = refl }) tt;
+  undenied = λ s t q. let z : _≡_ {A = ℕ} 0 1 = cc in omega arith;
+  closed-first = λ s t h. levels-closed s t c h;
+  unserved = λ e. refl;
+  refers = λ s t h. absurd (no-both h refl);
+  tells-first = λ s m h. omega arith;
+  tells-second = λ s m h. omega arith;
+}
+
 pub lawful : (op : Op) → Lawful (asks op)
 lawful (onSemaphore n a) = lawful-room SemaphoreRoom.laws n a
 lawful (onQueue n a) = lawful-room QueueRoom.laws n a
+lawful (onLevel c) = lawful-level c
 
 module _ (s : State) (P : ℕ → Asks → Out → Type 0) (es : Endings s P) where
   pub ends : (c : Call) → P (no (c .caller)) (asks (c .op)) (step s c)
@@ -120,17 +140,17 @@ pub data Whose {C R : Type 0} (r : Room C R) (l : RoomLaws r) (askedOf : ℕ →
 
 -- a claim about what the object i sees of a call, and the state after it: what is asked of another object leaves its record and its wait queues alone
 pub record Sees {C R : Type 0} (r : Room C R) (l : RoomLaws r) (s : State) (i : ℕ) (P : Made C → State → Type 0) : Type 0 where
-  pub refused : (t : ℕ) (a : Option (Act C)) (e : Err) → P (record { caller = t; asked = a; answer = say (error e) 0 [] }) s
-  pub elsewhere : (t : ℕ) (a : Answer) (s′ : State) → at (r .nothing) (r .records s′) i ≡ at (r .nothing) (r .records s) i
-      → (Distinct (s .waits) → (p : Place) → isAt (l .tag) i p ≡ true → waitersAt s′ p ≡ waitersAt s p) → P (record { caller = t; asked = none; answer = a }) s′
-  pub here : (t : ℕ) (a : Act C) → Passed r s t i a
-      → P (record { caller = t; asked = some a; answer = actOn r (s .fixed .tasks) (s .waits) (r .records s) t i a .answer }) (onRecords r s (actOn r (s .fixed .tasks) (s .waits) (r .records s) t i a) .state)
+  pub refused : (t : ℕ) (a : Option (Act C)) (x : Option ExtendedCall) (e : Err) → P (record { caller = t; asked = a; extended = x; answer = say (error e) 0 [] }) s
+  pub elsewhere : (t : ℕ) (x : Option ExtendedCall) (a : Answer) (s′ : State) → at (r .nothing) (r .records s′) i ≡ at (r .nothing) (r .records s) i
+      → (Distinct (s .waits) → (p : Place) → isAt (l .tag) i p ≡ true → waitersAt s′ p ≡ waitersAt s p) → P (record { caller = t; asked = none; extended = x; answer = a }) s′
+  pub here : (t : ℕ) (a : Act C) (x : Option ExtendedCall) → Passed r s t i a
+      → P (record { caller = t; asked = some a; extended = x; answer = actOn r (s .fixed .tasks) (s .waits) (r .records s) t i a .answer }) (onRecords r s (actOn r (s .fixed .tasks) (s .waits) (r .records s) t i a) .state)
 
 module _ {C R : Type 0} (r : Room C R) (l : RoomLaws r) (askedOf : ℕ → Op → Option (Act C)) (whose : (op : Op) → Whose r l askedOf op) (s : State) where
-  module _ (i : ℕ) (P : Made C → State → Type 0) (cs : Sees r l s i P) (t : ℕ) where
+  module _ (i : ℕ) (P : Made C → State → Type 0) (cs : Sees r l s i P) (t : ℕ) (y : Option ExtendedCall) where
     -- what the object sees of a call that asks x
     abbrev Seen : Option (Act C) → Asks → Type 0
-    Seen a x = P (record { caller = t; asked = a; answer = x .act s t .answer }) (x .act s t .state)
+    Seen a x = P (record { caller = t; asked = a; extended = y; answer = x .act s t .answer }) (x .act s t .state)
 
     seen-here : (n : ℤ) (a : Act C) → check r s t (no n) a ≡ none → Seen (askedIf (eqb i (no n)) a) (onObject r n a)
     seen-here n a h = go (eqb i (no n)) refl
@@ -139,11 +159,11 @@ module _ {C R : Type 0} (r : Room C R) (l : RoomLaws r) (askedOf : ℕ → Op �
         o j = actOn r (s .fixed .tasks) (s .waits) (r .records s) t j a
 
         go : (b : Bool) → eqb i (no n) ≡ b → Seen (askedIf b a) (onObject r n a)
-        go true e = subst (λ (j : ℕ). P (record { caller = t; asked = some a; answer = o j .answer }) (onRecords r s (o j) .state)) (eq-of i (no n) e)
-            (cs .here t a (subst (λ (j : ℕ). Passed r s t j a) (sym (eq-of i (no n) e)) (passed r s t (no n) a h)))
+        go true e = subst (λ (j : ℕ). P (record { caller = t; asked = some a; extended = y; answer = o j .answer }) (onRecords r s (o j) .state)) (eq-of i (no n) e)
+            (cs .here t a y (subst (λ (j : ℕ). Passed r s t j a) (sym (eq-of i (no n) e)) (passed r s t (no n) a h)))
         go false e =
             let z = ne-of i (no n) e in
-            cs .elsewhere t (o (no n) .answer) _ (ap (λ (xs : List R). at (r .nothing) xs i) (l .records-with s _ _) ∙ stays l (s .fixed .tasks) (s .waits) (r .records s) t (no n) a .other i z)
+            cs .elsewhere t y (o (no n) .answer) _ (ap (λ (xs : List R). at (r .nothing) xs i) (l .records-with s _ _) ∙ stays l (s .fixed .tasks) (s .waits) (r .records s) t (no n) a .other i z)
             (λ d p f. ap (λ (ws : List Waiter). waitersAt (setWaits s ws) p) (l .waits-with s _ _) ∙ waits-apart l (s .fixed .tasks) (s .waits) (r .records s) t (no n) d a p (other-number (l .tag) (no n) i p f (λ q. z (sym q))))
 
     by-whose : (op : Op) → asks op .check s t ≡ none → Whose r l askedOf op → Seen (askedOf i op) (asks op)
@@ -152,7 +172,7 @@ module _ {C R : Type 0} (r : Room C R) (l : RoomLaws r) (askedOf : ℕ → Op �
         (subst (λ (x : Asks). Seen (askedIf (eqb i (no n)) a) x) (sym e) (seen-here n a (subst (λ (x : Asks). x .check s t ≡ none) e h)))
     by-whose op h (foreign k f) =
         subst (λ (b : Option (Act C)). Seen b (asks op)) (sym (f i))
-        (cs .elsewhere t (asks op .act s t .answer) (asks op .act s t .state) (ap (λ (xs : List R). at (r .nothing) xs i) (k .records s t)) (λ d p g. k .waits s t d p (room-at (l .tag) i p g)))
+        (cs .elsewhere t y (asks op .act s t .answer) (asks op .act s t .state) (ap (λ (xs : List R). at (r .nothing) xs i) (k .records s t)) (λ d p g. k .waits s t d p (room-at (l .tag) i p g)))
 
   module _ (i : ℕ) (P : Made C → State → Type 0) (cs : Sees r l s i P) where
     pub sees : (c : Call) → P (seenBy (askedOf i) (event s c)) (step s c .state)
@@ -160,9 +180,9 @@ module _ {C R : Type 0} (r : Room C R) (l : RoomLaws r) (askedOf : ℕ → Op �
     sees c = go (asks (c .op) .check s (no (c .caller))) refl
       where
         go : (o : Option Err) → asks (c .op) .check s (no (c .caller)) ≡ o
-            → P (record { caller = no (c .caller); asked = askedOf i (c .op); answer = actIf s (no (c .caller)) (asks (c .op)) o .answer }) (actIf s (no (c .caller)) (asks (c .op)) o .state)
-        go (some e) h = cs .refused (no (c .caller)) (askedOf i (c .op)) e
-        go none h = by-whose i P cs (no (c .caller)) (c .op) h (whose (c .op))
+            → P (record { caller = no (c .caller); asked = askedOf i (c .op); extended = extendedOf (c .op); answer = actIf s (no (c .caller)) (asks (c .op)) o .answer }) (actIf s (no (c .caller)) (asks (c .op)) o .state)
+        go (some e) h = cs .refused (no (c .caller)) (askedOf i (c .op)) (extendedOf (c .op)) e
+        go none h = by-whose i P cs (no (c .caller)) (extendedOf (c .op)) (c .op) h (whose (c .op))
 
   -- a claim about all records of the room
   module _ (Q : List R → Type 0) (z : Q (r .records s)) (k : (t n : ℕ) (a : Act C) → Passed r s t n a → Q (actOn r (s .fixed .tasks) (s .waits) (r .records s) t n a .records)) where
@@ -196,7 +216,7 @@ module _ {C R : Type 0} (r : Room C R) (l : RoomLaws r) (askedOf : ℕ → Op �
   pub vector-law : (i : ℕ) (c : Call)
       → r .vector (at (r .nothing) (r .records (step s c .state)) i) ≡ vectorBy (askedOf i (c .op)) (step s c .answer .code) (r .vector (at (r .nothing) (r .records s) i))
   vector-law i c = sees i (λ m s′. r .vector (at (r .nothing) (r .records s′) i) ≡ vectorBy (m .asked) (m .answer .code) (r .vector (at (r .nothing) (r .records s) i))) (record {
-    refused = λ t a e. unset a e (r .vector (at (r .nothing) (r .records s) i));
-    elsewhere = λ t a s′ e f. ap (r .vector) e;
-    here = λ t a p. ap (λ (xs : List R). r .vector (at (r .nothing) xs i)) (l .records-with s _ _) ∙ vectors l (s .fixed .tasks) (s .waits) (r .records s) t i a (p .numbered) (p .there);
+    refused = λ t a x e. unset a e (r .vector (at (r .nothing) (r .records s) i));
+    elsewhere = λ t x a s′ e f. ap (r .vector) e;
+    here = λ t a x p. ap (λ (xs : List R). r .vector (at (r .nothing) xs i)) (l .records-with s _ _) ∙ vectors l (s .fixed .tasks) (s .waits) (r .records s) t i a (p .numbered) (p .there);
   }) c

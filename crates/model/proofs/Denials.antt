@@ -3,15 +3,17 @@ use mathlib.Core.Path.{_≡_, refl, sym, ap, _∙_, subst}
 use mathlib.Core.Bool.{Bool, true, false, _&&_}
 use mathlib.Core.List.{List, [], _∷_, _++_, map, append-nil}
 use mathlib.Core.Option.{Option, none, some}
-use Prim.Native.Nat.{ℕ, zero, suc}
+use Prim.Native.Nat.{ℕ, zero, suc, _<_}
 use lib.Dec.{leb}
 use lib.IntN.{ℤ, pos, negsuc}
+use Rattle.access.proofs.Laws.{kernel-always}
+use Rattle.access.specs.Domains.{runningOf}
 use Rattle.access.specs.Patterns.{admitted}
 use Rattle.access.specs.Vectors.{resolved}
 use Rattle.itron.specs.Codes.{Err, eOacv, error}
 use Rattle.itron.specs.Limits.{maxDomains}
-use Rattle.model.specs.Lists.{at}
-use Rattle.model.specs.State.{Vector, Sem, Queue, State, zeroVector, noSem, noQueue, domainAt, no}
+use Rattle.model.specs.Lists.{at, total}
+use Rattle.model.specs.State.{Vector, Sem, Queue, State, zeroVector, noSem, noQueue, domainAt, runningAt, no}
 use Rattle.model.specs.Answers.{whenOk}
 use Rattle.model.specs.Acts.{Act}
 use Rattle.model.specs.Rooms.{Room}
@@ -19,16 +21,19 @@ use Rattle.model.specs.Semaphores as Semaphores
 use Rattle.model.specs.Queues as Queues
 use Rattle.model.specs.Units.{unitOk}
 use Rattle.model.specs.Table.{Entry, task, sem, queue, region, fresh, freshBy, checkEntry, add, enter, enterBy, close, closeBy}
-use Rattle.model.specs.Calls.{Op, onSemaphore, onQueue, Call, call, step}
-use Rattle.model.specs.History.{seenBy, vectorBy, vectorSince, after, history}
+use Rattle.model.specs.Calls.{Op, onSemaphore, onQueue, onLevel, Call, call, step}
+use Rattle.model.specs.History.{History, seenBy, vectorBy, vectorSince, after, history}
 use Rattle.model.specs.SemaphoreClaims as SemaphoreClaims
 use Rattle.model.specs.QueueClaims as QueueClaims
-use Rattle.model.specs.Denials.{semVectors, queueVectors, patternSince, DeniedSince}
+use Rattle.model.specs.Denials.{Ready, OnObject, InRange, There, semVectors, queueVectors, patternSince, DeniedSince}
+use Rattle.model.specs.LevelClaims.{entersBy, leavesBy, runningWhen, byNone}
+use Rattle.model.specs.Demand3.{JustClosed}
 use Rattle.model.proofs.Lists.{no-both}
 use Rattle.model.proofs.Rooms.{RoomLaws}
 use Rattle.model.proofs.Semaphores as SemaphoreRoom
 use Rattle.model.proofs.Queues as QueueRoom
 use Rattle.model.proofs.Cover.{Whose, vector-law}
+use Rattle.model.proofs.LevelClaims.{tally, level-since, ran-outside, ran-inside}
 use Rattle.model.proofs.SemaphoreClaims as SemaphoreLaws
 use Rattle.model.proofs.QueueClaims as QueueLaws
 use Rattle.model.proofs.Answers.{patternNow, oacv-exactly}
@@ -114,7 +119,21 @@ module _ {A B : Type 0} (f : A → B) (d : A) where
   at-map (x ∷ l) (suc zero) = refl
   at-map (x ∷ l) (suc (suc i)) = at-map l (suc i)
 
-module _ (l : List Entry) (s₀ : State) (g : Gave l s₀) (cs : List Call) where
+-- ---- what DeniedSince says, in plain facts: who left as often as it entered is judged by its own domain; who did not is denied nothing
+module _ (l : List Entry) (h : History) (s : State) (t : ℤ) (op : Op) where
+  abbrev Outside : Type 0
+  Outside = total (entersBy (no t)) (byNone h) ≡ total (leavesBy (no t)) (byNone h)
+
+  pub denied-outside : DeniedSince l h s t op → Outside → admitted (patternSince l h op) (domainAt s (no t)) ≡ false
+  denied-outside d e = sym (ap (admitted (patternSince l h op)) (ran-outside (domainAt s) (no t) (byNone h) e)) ∙ d .denied
+
+  pub outside-denies : OnObject op → Ready s (no t) → InRange s op → There s op → Outside → admitted (patternSince l h op) (domainAt s (no t)) ≡ false → DeniedSince l h s t op
+  outside-denies o r i n e f = record { object = o; ready = r; numbered = i; there = n; denied = ap (admitted (patternSince l h op)) (ran-outside (domainAt s) (no t) (byNone h) e) ∙ f }
+
+  pub denied-inside : DeniedSince l h s t op → total (leavesBy (no t)) (byNone h) < total (entersBy (no t)) (byNone h) → ⊥
+  denied-inside d e = no-both (ap (admitted (patternSince l h op)) (ran-inside (domainAt s) (no t) (byNone h) e) ∙ kernel-always (patternSince l h op)) (d .denied)
+
+module _ (l : List Entry) (s₀ : State) (g : Gave l s₀) (j : JustClosed s₀) (cs : List Call) where
   -- the pattern that governs a call, by the state and by entries and history
   pattern-is : (op : Op) → patternNow (after s₀ cs) op ≡ patternSince l (history s₀ cs) op
   pattern-is (onSemaphore n a) =
@@ -125,19 +144,24 @@ module _ (l : List Entry) (s₀ : State) (g : Gave l s₀) (cs : List Call) wher
       ap (λ (v : Vector). QueueClaims.patternFor v a)
       (vectors-since Queues.room QueueRoom.laws QueueClaims.askedOf QueueLaws.whose s₀ (no n) cs
       ∙ ap (λ (v : Vector). vectorSince v (QueueClaims.byQueue (no n) (history s₀ cs))) (at-map (λ (x : Queue). x .vector) noQueue (s₀ .queues) (no n) ∙ ap (λ (k : List Vector). at zeroVector k (no n)) (g .queues)))
+  pattern-is (onLevel c) = refl
+
+  -- and the domain as which a task runs
+  running-is : (t : ℕ) → runningAt (after s₀ cs) t ≡ runningWhen (domainAt (after s₀ cs)) t (byNone (history s₀ cs))
+  running-is t = ap (runningOf (domainAt (after s₀ cs) t)) (level-since (λ (op : Op). none) t (tally s₀ j cs))
 
   not-admitted : (b : Bool) → (b ≡ true → ⊥) → b ≡ false
   not-admitted true f = absurd (f refl)
   not-admitted false f = refl
 
   module _ (t : ℤ) (op : Op) where
-    abbrev by-pattern : ℕ → Bool
-    by-pattern p = admitted p (domainAt (after s₀ cs) (no t))
+    same-verdict : admitted (patternNow (after s₀ cs) op) (runningAt (after s₀ cs) (no t)) ≡ admitted (patternSince l (history s₀ cs) op) (runningWhen (domainAt (after s₀ cs)) (no t) (byNone (history s₀ cs)))
+    same-verdict = let p = pattern-is op in let d = running-is (no t) in λ i. admitted (p i) (d i)
 
     pub denied-only : step (after s₀ cs) (call t op) .answer .code ≡ error eOacv → DeniedSince l (history s₀ cs) (after s₀ cs) t op
     denied-only q =
         let d = oacv-exactly (after s₀ cs) t op .0 q in
-        record { ready = d .0; numbered = d .1 .0; there = d .1 .1 .0; denied = ap by-pattern (sym (pattern-is op)) ∙ not-admitted _ (d .1 .1 .1) }
+        record { object = d .0; ready = d .1 .0; numbered = d .1 .1 .0; there = d .1 .1 .1 .0; denied = sym same-verdict ∙ not-admitted _ (d .1 .1 .1 .1) }
 
     pub denied-always : DeniedSince l (history s₀ cs) (after s₀ cs) t op → step (after s₀ cs) (call t op) .answer .code ≡ error eOacv
-    denied-always d = oacv-exactly (after s₀ cs) t op .1 (d .ready, (d .numbered, (d .there, λ m. no-both m (ap by-pattern (pattern-is op) ∙ d .denied))))
+    denied-always d = oacv-exactly (after s₀ cs) t op .1 (d .object, (d .ready, (d .numbered, (d .there, λ m. no-both m (same-verdict ∙ d .denied)))))

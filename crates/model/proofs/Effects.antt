@@ -118,7 +118,7 @@ module _ (b : Bool) (ts : List TaskEntry) (p : Place) where
       go false h (first a c e q i) = passed-over y ws a c e q (λ w. absurd (elsewhere h w)) others i
 
 -- ---- the object's record
-put-nth : {A : Type 0} (l m : List A) (x y : A) → put (l ++ (x ∷ m)) (suc (length l)) y ≡ l ++ (y ∷ m)
+pub put-nth : {A : Type 0} (l m : List A) (x y : A) → put (l ++ (x ∷ m)) (suc (length l)) y ≡ l ++ (y ∷ m)
 put-nth [] m x y = refl
 put-nth (z ∷ l) m x y = ap (λ (k : List _). z ∷ k) (put-nth l m x y)
 
@@ -127,7 +127,7 @@ put-made : {A : Type 0} (d : A) (g : A → A) (l m : List A) (x : A) → put (l 
 put-made d g l m x = ap (λ (y : _). put (l ++ (x ∷ m)) (suc (length l)) (g y)) (nth d x l m) ∙ put-nth l m x (g x)
 
 -- ---- semaphores
-module _ (f : Fixed) (qs : List Queue) (k : ℕ) (l m : List Sem) where
+module _ (f : Fixed) (qs : List Queue) (ls : List ℕ) (k : ℕ) (l m : List Sem) where
   -- the place of the semaphore, a call on it, and a state in which these tasks wait and its record is y
   abbrev pub atSem : Place
   atSem = record { side = onSem; number = suc (length l) }
@@ -136,7 +136,7 @@ module _ (f : Fixed) (qs : List Queue) (k : ℕ) (l m : List Sem) where
   askSem a = onSemaphore (pos (suc (length l))) a
 
   abbrev pub semState : List Waiter → Sem → State
-  semState ws y = record { fixed = f; waits = ws; sems = l ++ (y ∷ m); queues = qs }
+  semState ws y = record { fixed = f; waits = ws; sems = l ++ (y ∷ m); queues = qs; levels = ls }
 
   abbrev pub withCount : Sem → ℕ → Sem
   withCount y c = record { domain = y .domain; attribute = y .attribute; max = y .max; count = c; vector = y .vector }
@@ -170,7 +170,7 @@ module _ (f : Fixed) (qs : List Queue) (k : ℕ) (l m : List Sem) where
         does s (pos k) (askSem (own signal)) p
         ∙ (λ i. onRecords Semaphores.room s (signalBy ws (s .sems) (suc (length l)) (w i) (leb (y i .max) (y i .count))))
         ∙ ap (λ (t : Bool). onRecords Semaphores.room s (signalBy ws (s .sems) (suc (length l)) [] t)) b
-        ∙ ap (λ (xs : List Sem). record { answer = answers ok 0 []; state = record { fixed = f; waits = ws; sems = xs; queues = qs } }) (put-made noSem (λ (y : Sem). withCount y (suc (y .count))) l m x)
+        ∙ ap (λ (xs : List Sem). record { answer = answers ok 0 []; state = record { fixed = f; waits = ws; sems = xs; queues = qs; levels = ls } }) (put-made noSem (λ (y : Sem). withCount y (suc (y .count))) l m x)
 
     -- "Count above 0: minus 1, E_OK"
     pub acquire-takes : (ws : List Waiter) (a : Patience) (c : ℕ) → x .count ≡ suc c → Passes (semState ws x) (pos k) (askSem (own (acquire a)))
@@ -180,7 +180,7 @@ module _ (f : Fixed) (qs : List Queue) (k : ℕ) (l m : List Sem) where
         let y = nth noSem x l m in
         does s (pos k) (askSem (own (acquire a))) p
         ∙ ap (λ (j : ℕ). onRecords Semaphores.room s (acquireBy ws (s .sems) k (suc (length l)) a j)) (ap (λ (z : Sem). z .count) y ∙ h)
-        ∙ ap (λ (xs : List Sem). record { answer = answers ok 0 []; state = record { fixed = f; waits = ws; sems = xs; queues = qs } }) (put-made noSem (λ (z : Sem). withCount z c) l m x)
+        ∙ ap (λ (xs : List Sem). record { answer = answers ok 0 []; state = record { fixed = f; waits = ws; sems = xs; queues = qs; levels = ls } }) (put-made noSem (λ (z : Sem). withCount z c) l m x)
 
     -- "wait puts the caller last in the queue and answers "waiting""
     pub wait-joins : (ws : List Waiter) → x .count ≡ 0 → Passes (semState ws x) (pos k) (askSem (own (acquire forever)))
@@ -197,11 +197,11 @@ module _ (f : Fixed) (qs : List Queue) (k : ℕ) (l m : List Sem) where
         ≡ record { answer = answers ok 0 []; state = semState ws (record { domain = x .domain; attribute = x .attribute; max = x .max; count = x .count; vector = v }) }
     semaphore-set ws v p =
         does (semState ws x) (pos k) (askSem (setVector v)) p
-        ∙ ap (λ (xs : List Sem). record { answer = answers ok 0 []; state = record { fixed = f; waits = ws; sems = xs; queues = qs } })
+        ∙ ap (λ (xs : List Sem). record { answer = answers ok 0 []; state = record { fixed = f; waits = ws; sems = xs; queues = qs; levels = ls } })
         (put-made noSem (λ (z : Sem). record { domain = z .domain; attribute = z .attribute; max = z .max; count = z .count; vector = v }) l m x)
 
 -- ---- data queues
-module _ (f : Fixed) (xs : List Sem) (k : ℕ) (l m : List Queue) where
+module _ (f : Fixed) (xs : List Sem) (ls : List ℕ) (k : ℕ) (l m : List Queue) where
   -- where a task waits to receive from the queue and where to send to it, a call on it, and a state in which these tasks wait and its record is y
   abbrev pub toReceive : Place
   toReceive = record { side = receiving; number = suc (length l) }
@@ -213,7 +213,7 @@ module _ (f : Fixed) (xs : List Sem) (k : ℕ) (l m : List Queue) where
   askQueue a = onQueue (pos (suc (length l))) a
 
   abbrev pub queueState : List Waiter → Queue → State
-  queueState ws y = record { fixed = f; waits = ws; sems = xs; queues = l ++ (y ∷ m) }
+  queueState ws y = record { fixed = f; waits = ws; sems = xs; queues = l ++ (y ∷ m); levels = ls }
 
   abbrev pub withBuffer : Queue → List ℕ → Queue
   withBuffer y b = record { domain = y .domain; attribute = y .attribute; capacity = y .capacity; buffer = b; vector = y .vector }
@@ -221,9 +221,9 @@ module _ (f : Fixed) (xs : List Sem) (k : ℕ) (l m : List Queue) where
   module _ (x : Queue) where
     -- the queue with another buffer, in an answer and the state after it
     stored : (g : Queue → List ℕ) (ws : List Waiter) (a : Answer)
-        → out a (record { fixed = f; waits = ws; sems = xs; queues = put (l ++ (x ∷ m)) (suc (length l)) (withBuffer (at noQueue (l ++ (x ∷ m)) (suc (length l))) (g (at noQueue (l ++ (x ∷ m)) (suc (length l))))) })
+        → out a (record { fixed = f; waits = ws; sems = xs; queues = put (l ++ (x ∷ m)) (suc (length l)) (withBuffer (at noQueue (l ++ (x ∷ m)) (suc (length l))) (g (at noQueue (l ++ (x ∷ m)) (suc (length l))))); levels = ls })
         ≡ out a (queueState ws (withBuffer x (g x)))
-    stored g ws a = ap (λ (ys : List Queue). out a (record { fixed = f; waits = ws; sems = xs; queues = ys })) (put-made noQueue (λ (y : Queue). withBuffer y (g y)) l m x)
+    stored g ws a = ap (λ (ys : List Queue). out a (record { fixed = f; waits = ws; sems = xs; queues = ys; levels = ls })) (put-made noQueue (λ (y : Queue). withBuffer y (g y)) l m x)
 
     -- a receiver that gets the word leaves
     received : (c b : List Waiter) (e : Waiter) → FirstAt false (f .tasks) toReceive c b e → (a : Answer) → out a (queueState (leave (e .task) (c ++ (e ∷ b))) x) ≡ out a (queueState (c ++ b) x)
@@ -338,5 +338,5 @@ module _ (f : Fixed) (xs : List Sem) (k : ℕ) (l m : List Queue) where
         ≡ record { answer = answers ok 0 []; state = queueState ws (record { domain = x .domain; attribute = x .attribute; capacity = x .capacity; buffer = x .buffer; vector = v }) }
     queue-set ws v p =
         does (queueState ws x) (pos k) (askQueue (setVector v)) p
-        ∙ ap (λ (ys : List Queue). record { answer = answers ok 0 []; state = record { fixed = f; waits = ws; sems = xs; queues = ys } })
+        ∙ ap (λ (ys : List Queue). record { answer = answers ok 0 []; state = record { fixed = f; waits = ws; sems = xs; queues = ys; levels = ls } })
         (put-made noQueue (λ (y : Queue). record { domain = y .domain; attribute = y .attribute; capacity = y .capacity; buffer = y .buffer; vector = v }) l m x)

@@ -258,10 +258,12 @@ pub record TaskEntered (s s′ : State) (x : TaskEntry) : Type 0 where
   pub waits : s′ .waits ≡ s .waits
   pub sems : s′ .sems ≡ s .sems
   pub queues : s′ .queues ≡ s .queues
+  -- its level is "0 at first" (request T-03), and no other changes
+  pub levels : s′ .levels ≡ s .levels ++ (0 ∷ [])
 
 pub task-entered : (s : State) (d : ℤ) (p : ℕ) → Fits s (task d p) → TaskEntered s (enter s (task d p) .state) (record { domain = d; priority = p })
 task-entered s d p f = subst (λ (o : Out). TaskEntered s (o .state) (record { domain = d; priority = p })) (sym (taken s (task d p) f))
-    (record { tasks = one-more noTask (s .fixed .tasks) _; closed = refl; count = refl; unit = refl; regions = refl; waits = refl; sems = refl; queues = refl })
+    (record { tasks = one-more noTask (s .fixed .tasks) _; closed = refl; count = refl; unit = refl; regions = refl; waits = refl; sems = refl; queues = refl; levels = refl })
 
 -- "semaphores at their start count"
 pub record SemEntered (s s′ : State) (x : Sem) : Type 0 where
@@ -269,11 +271,12 @@ pub record SemEntered (s s′ : State) (x : Sem) : Type 0 where
   pub fixed : s′ .fixed ≡ s .fixed
   pub waits : s′ .waits ≡ s .waits
   pub queues : s′ .queues ≡ s .queues
+  pub levels : s′ .levels ≡ s .levels
 
 pub sem-entered : (s : State) (d : ℤ) (a start max : ℕ) (v : Choice) → Fits s (sem d a start max v)
     → SemEntered s (enter s (sem d a start max v) .state) (record { domain = d; attribute = a; max = max; count = start; vector = resolved d v })
 sem-entered s d a start max v f = subst (λ (o : Out). SemEntered s (o .state) (record { domain = d; attribute = a; max = max; count = start; vector = resolved d v })) (sym (taken s (sem d a start max v) f))
-    (record { sems = one-more noSem (s .sems) _; fixed = refl; waits = refl; queues = refl })
+    (record { sems = one-more noSem (s .sems) _; fixed = refl; waits = refl; queues = refl; levels = refl })
 
 -- "queues empty"
 pub record QueueEntered (s s′ : State) (x : Queue) : Type 0 where
@@ -281,11 +284,12 @@ pub record QueueEntered (s s′ : State) (x : Queue) : Type 0 where
   pub fixed : s′ .fixed ≡ s .fixed
   pub waits : s′ .waits ≡ s .waits
   pub sems : s′ .sems ≡ s .sems
+  pub levels : s′ .levels ≡ s .levels
 
 pub queue-entered : (s : State) (d : ℤ) (a c : ℕ) (v : Choice) → Fits s (queue d a c v)
     → QueueEntered s (enter s (queue d a c v) .state) (record { domain = d; attribute = a; capacity = c; buffer = []; vector = resolved d v })
 queue-entered s d a c v f = subst (λ (o : Out). QueueEntered s (o .state) (record { domain = d; attribute = a; capacity = c; buffer = []; vector = resolved d v })) (sym (taken s (queue d a c v) f))
-    (record { queues = one-more noQueue (s .queues) _; fixed = refl; waits = refl; sems = refl })
+    (record { queues = one-more noQueue (s .queues) _; fixed = refl; waits = refl; sems = refl; levels = refl })
 
 pub record RegionEntered (s s′ : State) (x : Region) : Type 0 where
   pub regions : OneMore noRegion (s .fixed .regions) (s′ .fixed .regions) x
@@ -296,11 +300,12 @@ pub record RegionEntered (s s′ : State) (x : Region) : Type 0 where
   pub waits : s′ .waits ≡ s .waits
   pub sems : s′ .sems ≡ s .sems
   pub queues : s′ .queues ≡ s .queues
+  pub levels : s′ .levels ≡ s .levels
 
 pub region-entered : (s : State) (d : ℤ) (a b z : ℕ) (v : Choice) → Fits s (region d a b z v)
     → RegionEntered s (enter s (region d a b z v) .state) (record { domain = d; attribute = a; base = b; size = z; vector = resolved d v })
 region-entered s d a b z v f = subst (λ (o : Out). RegionEntered s (o .state) (record { domain = d; attribute = a; base = b; size = z; vector = resolved d v })) (sym (taken s (region d a b z v) f))
-    (record { regions = one-more noRegion (s .fixed .regions) _; closed = refl; count = refl; unit = refl; tasks = refl; waits = refl; sems = refl; queues = refl })
+    (record { regions = one-more noRegion (s .fixed .regions) _; closed = refl; count = refl; unit = refl; tasks = refl; waits = refl; sems = refl; queues = refl; levels = refl })
 
 -- ---- "closing only closes"
 pub record Closed (s s′ : State) : Type 0 where
@@ -312,11 +317,12 @@ pub record Closed (s s′ : State) : Type 0 where
   pub waits : s′ .waits ≡ s .waits
   pub sems : s′ .sems ≡ s .sems
   pub queues : s′ .queues ≡ s .queues
+  pub levels : s′ .levels ≡ s .levels
 
 pub close-only : (s : State) → s .fixed .closed ≡ false → (close s .answer .code ≡ ok) × Closed s (close s .state)
 unfolding close
 close-only s h = subst (λ (b : Bool). (closeBy b s .answer .code ≡ ok) × Closed s (closeBy b s .state)) (sym h)
-    (refl, record { closed = refl; count = refl; unit = refl; tasks = refl; regions = refl; waits = refl; sems = refl; queues = refl })
+    (refl, record { closed = refl; count = refl; unit = refl; tasks = refl; regions = refl; waits = refl; sems = refl; queues = refl; levels = refl })
 
 -- "closing it again too: E_CTX"
 pub close-again : (s : State) → s .fixed .closed ≡ true → close s .answer .code ≡ error eCtx
@@ -333,6 +339,7 @@ pub record Empty (s : State) (n u : ℕ) : Type 0 where
   pub waits : s .waits ≡ []
   pub sems : s .sems ≡ []
   pub queues : s .queues ≡ []
+  pub levels : s .levels ≡ []
 
 module _ (n unit : ℕ) where
   fresh-tells : Tells (leb n maxDomains && unitOk unit) ((n ≤ maxDomains) × IsUnit unit)
@@ -341,12 +348,12 @@ module _ (n unit : ℕ) where
   pub fresh-takes : n ≤ maxDomains → IsUnit unit → (fresh (pos n) unit .answer .code ≡ ok) × Empty (fresh (pos n) unit .state) n unit
   unfolding fresh
   fresh-takes h u = subst (λ (b : Bool). (freshBy b n unit .answer .code ≡ ok) × Empty (freshBy b n unit .state) n unit) (sym (holds fresh-tells (h, u)))
-      (refl, record { closed = refl; count = refl; unit = refl; tasks = refl; regions = refl; waits = refl; sems = refl; queues = refl })
+      (refl, record { closed = refl; count = refl; unit = refl; tasks = refl; regions = refl; waits = refl; sems = refl; queues = refl; levels = refl })
 
   bad : ((n ≤ maxDomains) × IsUnit unit → ⊥) → (fresh (pos n) unit .answer .code ≡ error ePar) × Empty (fresh (pos n) unit .state) 0 1
   unfolding fresh
   bad f = subst (λ (b : Bool). (freshBy b n unit .answer .code ≡ error ePar) × Empty (freshBy b n unit .state) 0 1) (sym (fails fresh-tells f))
-      (refl, record { closed = refl; count = refl; unit = refl; tasks = refl; regions = refl; waits = refl; sems = refl; queues = refl })
+      (refl, record { closed = refl; count = refl; unit = refl; tasks = refl; regions = refl; waits = refl; sems = refl; queues = refl; levels = refl })
 
   pub fresh-above : maxDomains < n → (fresh (pos n) unit .answer .code ≡ error ePar) × Empty (fresh (pos n) unit .state) 0 1
   fresh-above h = bad (λ p. omega (arith, p .0))
@@ -356,4 +363,4 @@ module _ (n unit : ℕ) where
 
 pub fresh-below : (k unit : ℕ) → (fresh (negsuc k) unit .answer .code ≡ error ePar) × Empty (fresh (negsuc k) unit .state) 0 1
 unfolding fresh
-fresh-below k unit = (refl, record { closed = refl; count = refl; unit = refl; tasks = refl; regions = refl; waits = refl; sems = refl; queues = refl })
+fresh-below k unit = (refl, record { closed = refl; count = refl; unit = refl; tasks = refl; regions = refl; waits = refl; sems = refl; queues = refl; levels = refl })

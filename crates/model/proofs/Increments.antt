@@ -1,7 +1,7 @@
 -- Demand 3 of a list of calls and of one call more, in plain facts: whatever the list, the task, the object, the word. Assumes nothing.
 use mathlib.Core.Path.{_≡_, refl, sym, ap, _∙_, subst}
 use mathlib.Core.Logic.{_≢_}
-use mathlib.Core.Bool.{Bool}
+use mathlib.Core.Bool.{Bool, true, false, cond}
 use mathlib.Core.List.{List, [], _∷_, _++_, map, append-assoc, append-nil, tail-eq-of-cons-eq}
 use mathlib.Core.Option.{Option, none, some}
 use Prim.Native.Nat.{ℕ, suc, _+_, _≤_, _<_}
@@ -11,14 +11,16 @@ use lib.IntN.{ℤ}
 use lib.ListN.{length, take}
 use Rattle.itron.specs.Codes.{Err, Code, ok, waiting, error}
 use Rattle.model.specs.Lists.{keep, anyOf, gathered}
-use Rattle.model.specs.State.{Vector, onSem, receiving, sending, Waiter, State, place, queueAt, semAt, waiter, no}
-use Rattle.model.specs.Answers.{Info, Released}
+use Rattle.model.specs.State.{Vector, onSem, receiving, sending, Waiter, State, place, queueAt, semAt, levelAt, waiter, no}
+use Rattle.model.specs.Answers.{Info, Released, whenOk}
 use Rattle.model.specs.Waits.{Patience, waitersIn, waitersAt, leave}
 use Rattle.model.specs.Acts.{Act, own, refer, setVector}
 use Rattle.model.specs.Semaphores.{SemaphoreCall, signal, acquire}
 use Rattle.model.specs.Queues.{QueueCall, send, receive, forcedSend}
-use Rattle.model.specs.Calls.{Op, onSemaphore, onQueue, call}
-use Rattle.model.specs.History.{Event, History, Made, askedIf, joined, without}
+use Rattle.model.specs.ExtendedCalls.{ExtendedCall, Enter, Leave}
+use Rattle.model.specs.Calls.{Op, onSemaphore, onQueue, onLevel, call}
+use Rattle.model.specs.History.{Event, History, Made, seenBy, askedIf, joined, without}
+use Rattle.model.specs.LevelClaims.{entersBy, leavesBy}
 use Rattle.model.specs.SemaphoreClaims as Semaphores
 use Rattle.model.specs.Sends.{Sent, wordOf, shown, waitingSends, enters, entered, wordsOf, handed, fullIn, buffered, drops, leaves}
 use Rattle.model.specs.QueueClaims as Queues
@@ -38,6 +40,9 @@ module _ {s₀ s : State} (d : Demand3 s₀ [] s) where
   pub first-waits : s .waits ≡ []
   first-waits = d .waitersAre
 
+  pub first-level : (t : ℕ) → levelAt s t ≡ 0
+  first-level t = omega (arith, d .levels t)
+
 -- ---- after the calls h, which left the state s, one call of task t, which left the state s′
 module _ (s₀ s s′ found : State) (h : History) (t : ℤ) (v : ℕ) (info : Info) where
   abbrev pub did : Op → Code → List Released → Event
@@ -49,7 +54,7 @@ module _ (s₀ s s′ found : State) (h : History) (t : ℤ) (v : ℕ) (info : I
 
   -- ---- the words of a queue: those of its buffer, before the call and after it
   abbrev seenQ : Option (Act QueueCall) → Code → List Released → Made QueueCall
-  seenQ o k rs = record { caller = no t; asked = o; answer = did (onQueue t refer) k rs .answer }
+  seenQ o k rs = record { caller = no t; asked = o; extended = none; answer = did (onQueue t refer) k rs .answer }
 
   module _ (q : ℕ) where
     abbrev seen : List (Made QueueCall)
@@ -183,7 +188,7 @@ module _ (s₀ s s′ found : State) (h : History) (t : ℤ) (v : ℕ) (info : I
 
   -- ---- the count of a semaphore
   abbrev seenS : Option (Act SemaphoreCall) → Code → List Released → Made SemaphoreCall
-  seenS o k rs = record { caller = no t; asked = o; answer = did (onQueue t refer) k rs .answer }
+  seenS o k rs = record { caller = no t; asked = o; extended = none; answer = did (onQueue t refer) k rs .answer }
 
   counts : (op : Op) (k : Code) (rs : List Released) → More op k rs → (i : ℕ) (o : Option (Act SemaphoreCall)) → Semaphores.askedOf i op ≡ o
       → semAt s′ i .count + Semaphores.grants (seenS o k rs) ≡ semAt s i .count + Semaphores.signals (seenS o k rs)
@@ -231,6 +236,55 @@ module _ (s₀ s s′ found : State) (h : History) (t : ℤ) (v : ℕ) (info : I
 
   pub refused-count : (op : Op) (e : Err) (rs : List Released) → More op (error e) rs → (i : ℕ) → semAt s′ i .count ≡ semAt s i .count
   refused-count op e rs m i = omega (arith, counts op (error e) rs m i _ refl)
+
+  -- ---- the level of a task
+  levels-move : (op : Op) (k : Code) (rs : List Released) → More op k rs → (u : ℕ) → levelAt s′ u + leavesBy u (seenBy {C = ⊥} (λ (x : Op). none) (did op k rs)) ≡ levelAt s u + entersBy u (seenBy {C = ⊥} (λ (x : Op). none) (did op k rs))
+  levels-move op k rs m u = omega (arith, m .0 .levels u, m .1 .levels u)
+
+  -- an enter that is done raises the caller's by 1, a leave lowers it by 1
+  pub enter-raises : (rs : List Released) → More (onLevel Enter) ok rs → levelAt s′ (no t) ≡ suc (levelAt s (no t))
+  enter-raises rs m = go (eqb (no t) (no t)) (eqb-same (no t)) (levels-move _ ok rs m (no t))
+    where
+      go : (b : Bool) → b ≡ true → levelAt s′ (no t) + cond b 0 0 ≡ levelAt s (no t) + cond b 1 0 → levelAt s′ (no t) ≡ suc (levelAt s (no t))
+      go true e z = omega (arith, z)
+      go false e z = cc
+
+  pub leave-lowers : (rs : List Released) → More (onLevel Leave) ok rs → suc (levelAt s′ (no t)) ≡ levelAt s (no t)
+  leave-lowers rs m = go (eqb (no t) (no t)) (eqb-same (no t)) (levels-move _ ok rs m (no t))
+    where
+      go : (b : Bool) → b ≡ true → levelAt s′ (no t) + cond b 1 0 ≡ levelAt s (no t) + cond b 0 0 → suc (levelAt s′ (no t)) ≡ levelAt s (no t)
+      go true e z = omega (arith, z)
+      go false e z = cc
+
+  -- nobody else's changes, by a refused call nobody's, and by a call on an object nobody's
+  pub another-level : (op : Op) (k : Code) (rs : List Released) → More op k rs → (u : ℕ) → u ≢ no t → levelAt s′ u ≡ levelAt s u
+  another-level op k rs m u z = go (eqb u (no t)) (eqb-no u (no t) z) _ _ (levels-move op k rs m u)
+    where
+      go : (b : Bool) → b ≡ false → (x y : ℕ) → levelAt s′ u + cond b x 0 ≡ levelAt s u + cond b y 0 → levelAt s′ u ≡ levelAt s u
+      go true e x y q = cc
+      go false e x y q = omega (arith, q)
+
+  unleveled : (x : ℕ) (b : Bool) (k : Code) → levelAt s′ x + cond b (whenOk 0 0 k) 0 ≡ levelAt s x + cond b (whenOk 0 0 k) 0 → levelAt s′ x ≡ levelAt s x
+  unleveled x b k q = omega (arith, q)
+
+  pub refused-level : (op : Op) (e : Err) (rs : List Released) → More op (error e) rs → (u : ℕ) → levelAt s′ u ≡ levelAt s u
+  refused-level op e rs m u = unleveled u (eqb u (no t)) (error e) (levels-move op (error e) rs m u)
+
+  pub waiting-level : (op : Op) (rs : List Released) → More op waiting rs → (u : ℕ) → levelAt s′ u ≡ levelAt s u
+  waiting-level op rs m u = unleveled u (eqb u (no t)) waiting (levels-move op waiting rs m u)
+
+  pub semaphore-level : (n : ℤ) (a : Act SemaphoreCall) (k : Code) (rs : List Released) → More (onSemaphore n a) k rs → (u : ℕ) → levelAt s′ u ≡ levelAt s u
+  semaphore-level n a k rs m u = unleveled u (eqb u (no t)) k (levels-move _ k rs m u)
+
+  pub queue-level : (n : ℤ) (a : Act QueueCall) (k : Code) (rs : List Released) → More (onQueue n a) k rs → (u : ℕ) → levelAt s′ u ≡ levelAt s u
+  queue-level n a k rs m u = unleveled u (eqb u (no t)) k (levels-move _ k rs m u)
+
+  -- entering and leaving moves no word and no count
+  pub level-words : (x : ExtendedCall) (k : Code) (rs : List Released) → More (onLevel x) k rs → (q : ℕ) → queueAt s′ q .buffer ≡ queueAt s q .buffer
+  level-words x k rs m q = unmoved q k rs _ m none refl refl refl refl
+
+  pub level-count : (x : ExtendedCall) (k : Code) (rs : List Released) → More (onLevel x) k rs → (i : ℕ) → semAt s′ i .count ≡ semAt s i .count
+  level-count x k rs m i = uncounted k rs _ m i none refl refl refl
 
   -- ---- who waits
   stand : (op : Op) (k : Code) (rs : List Released) → More op k rs → s′ .waits ≡ without rs (s .waits) ++ joined (did op k rs)

@@ -13,6 +13,7 @@ pub mod Semaphores
 pub mod Queues
 pub mod Cover
 pub mod Steps
+pub mod LevelClaims
 pub mod SemaphoreClaims
 pub mod Sends
 pub mod Placing
@@ -33,6 +34,7 @@ pub mod Numbers
 pub mod Replies
 pub mod Places
 pub mod Effects
+pub mod ExtendedAnswers
 pub mod Verdict
 pub mod Merged
 pub mod Entries

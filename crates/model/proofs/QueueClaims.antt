@@ -10,10 +10,11 @@ use lib.ListN.{length, length-append}
 use lib.Dec.{eqb, ltb, T}
 use lib.IntN.{ℤ}
 use borrow.Author.Tests.{ltb-true}
+use Rattle.access.specs.Domains.{runningOf}
 use Rattle.access.specs.Patterns.{admitted}
 use Rattle.itron.specs.Codes.{Code, ok, waiting, error}
 use Rattle.model.specs.Lists.{at, keep, consIf, anyOf, All, Each}
-use Rattle.model.specs.State.{Vector, Place, Fixed, Queue, receiving, sending, Waiter, State, place, noTask, queueAt, domainAt, priorityAt, waiter, setWaits, no}
+use Rattle.model.specs.State.{Vector, Place, Queue, receiving, sending, Waiter, State, place, noTask, queueAt, domainAt, priorityAt, runningAt, waiter, setWaits, no}
 use Rattle.model.specs.Answers.{Effect, Released, Out, out, say, whenOk, whenWaiting, whenAccepted}
 use Rattle.model.specs.Waits.{standsAt, isOther, absent, join, waitersAt, byPriority, receivers, senders}
 use Rattle.model.specs.Acts.{Act, own, refer, setVector, ofOwn}
@@ -22,26 +23,30 @@ use Rattle.model.specs.Queues as Queues
 use Rattle.model.specs.Queues.{QueueCall, send, receive, forcedSend, setBuffer, room}
 use Rattle.model.specs.Sends.{Sent, sendIn, sendOf, wordOf, notShown, waitingSends, buffered}
 use Rattle.model.specs.QueueClaims.{askedOf, byQueue, Sender, senderOf, senderIn, lineOf, Rising, maySend, mayReceive, SentAllowed, began, IsReceive, Came, TakenIn, TakenAllowed, Carried}
-use Rattle.model.specs.Calls.{Op, onSemaphore, onQueue, Call, asks, step}
+use Rattle.model.specs.Calls.{Op, onSemaphore, onQueue, onLevel, Call, asks, step}
 use Rattle.model.specs.Conditions.{QueuesFit, QueueEntryFits}
-use Rattle.model.specs.History.{History, event, Made, seenBy, after, history, askedIf, ofAsked, vectorSince, vectorBy, joined, without, pending}
+use Rattle.model.specs.ExtendedCalls.{ExtendedCall}
+use Rattle.model.specs.History.{History, event, Made, seenBy, extendedOf, after, history, askedIf, ofAsked, vectorSince, vectorBy, joined, without, pending}
+use Rattle.model.specs.LevelClaims.{runningWhen}
 use Rattle.model.specs.Demand3.{JustClosed}
 use Rattle.model.proofs.Lists.{absent-keep, all-keep, all-snoc, keep-append, keep-comm, keep-neither, map-append, map-keep, eq-of, eqb-same, eqb-sym, and-left, and-right, no-both, Distinct}
 use Rattle.model.proofs.Order.{standing-line, standing-rises}
 use Rattle.model.proofs.WaitQueues.{place-of}
 use Rattle.model.proofs.Fits.{queues-put, buffer-fits}
-use Rattle.model.proofs.Rooms.{roomOf, is-at, Calls, Passed, passed, stranger}
+use Rattle.model.proofs.Rooms.{roomOf, is-at, Calls, Passed, passed, stranger, stranger-level}
 use Rattle.model.proofs.Semaphores as SemaphoreRoom
 use Rattle.model.proofs.Queues.{bare, laws, cover, fine-here, qview-eq, qviewOf, QueueOk, via}
 use Rattle.model.proofs.Sends.{Moves, Held, none-yet, one-more, in-order-held, all-placed, in-call-order}
 use Rattle.model.proofs.Placing.{refused-moves, elsewhere-moves, act-moves}
 use Rattle.model.proofs.Cover.{Whose, mine, foreign, sees, keeps-records, entries-stay, all-stay, vector-law, Endings, ends}
 use Rattle.model.proofs.Steps.{distinct-law, fixed-law, waiters-are}
+use Rattle.model.proofs.LevelClaims.{Tally, tally-start, tally-step, level-since}
 
 -- ---- whose a call is, as the queues see it
 pub whose : (op : Op) → Whose room laws askedOf op
 whose (onQueue n a) = mine n a refl (λ i. refl)
 whose (onSemaphore n a) = foreign (stranger room (laws .tag) SemaphoreRoom.laws (λ h. let z : _≡_ {A = ℕ} 0 1 = h in omega arith) (λ s ws xs. refl) n a) (λ i. refl)
+whose (onLevel c) = foreign (stranger-level room (laws .tag) (λ s ls. refl) c) (λ i. refl)
 
 -- ---- an entry is kept as given: no call changes a queue's owner, attribute or capacity, or the number of queues
 pub entries-law : (s : State) (c : Call) → ((q : ℕ) → bare (queueAt (step s c .state) q) ≡ bare (queueAt s q)) × (length (step s c .state .queues) ≡ length (s .queues))
@@ -58,9 +63,9 @@ set-law s q c = vector-law room laws askedOf whose s q c
 -- ---- one call leaves each queue fine
 pub fine-law : (s : State) → Distinct (s .waits) → (q : ℕ) → QueueOk (qviewOf s q) → (c : Call) → QueueOk (qviewOf (step s c .state) q)
 fine-law s d q k c = sees room laws askedOf whose s q (λ m s′. QueueOk (qviewOf s′ q)) (record {
-  refused = λ t a e. k;
-  elsewhere = λ t a s′ e f. via (qview-eq (ap (λ (z : Queue). z .capacity) e) (ap (λ (z : Queue). z .buffer) e) (f d (place sending q) (is-at (laws .tag) q (place sending q) refl refl)) (f d (place receiving q) (is-at (laws .tag) q (place receiving q) refl refl))) k;
-  here = λ t a p. fine-here (s .fixed .tasks) (s .waits) (s .queues) t q (p .numbered) (p .there) d k a;
+  refused = λ t a x e. k;
+  elsewhere = λ t x a s′ e f. via (qview-eq (ap (λ (z : Queue). z .capacity) e) (ap (λ (z : Queue). z .buffer) e) (f d (place sending q) (is-at (laws .tag) q (place sending q) refl refl)) (f d (place receiving q) (is-at (laws .tag) q (place receiving q) refl refl))) k;
+  here = λ t a x p. fine-here (s .fixed .tasks) (s .waits) (s .queues) t q (p .numbered) (p .there) d k a;
 }) c
 
 -- ---- the limits of the queues are kept
@@ -97,15 +102,22 @@ pub record Inv (s₀ : State) (s : State) (h : History) : Type 0 where
   pub capacity : (q : ℕ) → queueAt s q .capacity ≡ queueAt s₀ q .capacity
   pub attribute : (q : ℕ) → queueAt s q .attribute ≡ queueAt s₀ q .attribute
   pub vectors : (q : ℕ) → queueAt s q .vector ≡ vectorSince (queueAt s₀ q .vector) (byQueue q h)
+  pub levels : Tally s h
   pub came : (q : ℕ) → All (λ (e : Waiter). Came (domainAt s₀) (queueAt s₀ q .vector) (e .task) (byQueue q h)) (receivers s q)
 
 module _ (s₀ s : State) (h : History) (i : Inv s₀ s h) where
   -- who is admitted by the state is admitted by the history
-  may-send : (q t : ℕ) → admitted (queueAt s q .vector .normal1) (domainAt s t) ≡ true → T (maySend (domainAt s₀) (queueAt s₀ q .vector) t (byQueue q h))
-  may-send q t m = subst (λ (v : Vector). T (admitted (v .normal1) (domainAt s₀ t))) (i .vectors q) (subst (λ (d : Fixed). T (admitted (queueAt s q .vector .normal1) (at noTask (d .tasks) t .domain))) (i .fixed) (rw m tt))
+  runs-as : (q t : ℕ) → runningAt s t ≡ runningWhen (domainAt s₀) t (byQueue q h)
+  runs-as q t = let k = level-since (askedOf q) t (i .levels) in λ j. runningOf (at noTask (i .fixed j .tasks) t .domain) (k j)
 
-  may-receive : (q t : ℕ) → admitted (queueAt s q .vector .normal2) (domainAt s t) ≡ true → T (mayReceive (domainAt s₀) (queueAt s₀ q .vector) t (byQueue q h))
-  may-receive q t m = subst (λ (v : Vector). T (admitted (v .normal2) (domainAt s₀ t))) (i .vectors q) (subst (λ (d : Fixed). T (admitted (queueAt s q .vector .normal2) (at noTask (d .tasks) t .domain))) (i .fixed) (rw m tt))
+  admitted-since : (q t : ℕ) (f : Vector → ℕ) → admitted (f (queueAt s q .vector)) (runningAt s t) ≡ true → T (admitted (f (vectorSince (queueAt s₀ q .vector) (byQueue q h))) (runningWhen (domainAt s₀) t (byQueue q h)))
+  admitted-since q t f m = let d = runs-as q t in subst T (λ j. admitted (f (i .vectors q j)) (d j)) (rw m tt)
+
+  may-send : (q t : ℕ) → admitted (queueAt s q .vector .normal1) (runningAt s t) ≡ true → T (maySend (domainAt s₀) (queueAt s₀ q .vector) t (byQueue q h))
+  may-send q t m = admitted-since q t (λ (v : Vector). v .normal1) m
+
+  may-receive : (q t : ℕ) → admitted (queueAt s q .vector .normal2) (runningAt s t) ≡ true → T (mayReceive (domainAt s₀) (queueAt s₀ q .vector) t (byQueue q h))
+  may-receive q t m = admitted-since q t (λ (v : Vector). v .normal2) m
 
   module _ (q : ℕ) where
     abbrev Arrived : ℕ → List (Made QueueCall) → Type 0
@@ -162,7 +174,7 @@ module _ (s₀ s : State) (h : History) (i : Inv s₀ s h) where
     module _ (op : Op) where
       -- a call of task t on op that gives o
       abbrev madeBy : ℕ → Out → Made QueueCall
-      madeBy t o = record { caller = t; asked = askedOf q op; answer = o .answer }
+      madeBy t o = record { caller = t; asked = askedOf q op; extended = extendedOf op; answer = o .answer }
 
       abbrev CameLaw : ℕ → Asks → Out → Type 0
       CameLaw t x o = x ≡ asks op → All (λ (e : Waiter). Arrived (e .task) (madeBy t o ∷ byQueue q h)) (receivers (o .state) q)
@@ -211,9 +223,9 @@ module _ (s₀ s : State) (h : History) (i : Inv s₀ s h) where
     MayTake t (receive a) = T (mayReceive (domainAt s₀) (queueAt s₀ q .vector) t (byQueue q h))
     MayTake t (forcedSend w) = Unit
 
-    took : (t : ℕ) (c : QueueCall) → MayTake t c → (o : Effect Queue) → o ≡ Queues.does (s .fixed .tasks) (s .waits) (s .queues) t q c
-        → whenOk Unit (TakenIn (domainAt s₀) (queueAt s₀ q .vector) (record { caller = t; asked = some (own c); answer = o .answer }) (byQueue q h) c) (o .answer .code)
-    took t c m o e = subst (λ (x : Effect Queue). Took c x) (sym e) (cover (s .fixed .tasks) (s .waits) (s .queues) t q (λ (d : QueueCall) (x : Effect Queue). MayTake t d → Took d x) (record {
+    took : (t : ℕ) (y : Option ExtendedCall) (c : QueueCall) → MayTake t c → (o : Effect Queue) → o ≡ Queues.does (s .fixed .tasks) (s .waits) (s .queues) t q c
+        → whenOk Unit (TakenIn (domainAt s₀) (queueAt s₀ q .vector) (record { caller = t; asked = some (own c); extended = y; answer = o .answer }) (byQueue q h) c) (o .answer .code)
+    took t y c m o e = subst (λ (x : Effect Queue). Took c x) (sym e) (cover (s .fixed .tasks) (s .waits) (s .queues) t q (λ (d : QueueCall) (x : Effect Queue). MayTake t d → Took d x) (record {
       sendPasses = λ a w e l f z. (first f, tt);
       sendStores = λ a w f g z. tt;
       sendFails = λ w f g z. tt;
@@ -233,18 +245,18 @@ module _ (s₀ s : State) (h : History) (i : Inv s₀ s h) where
         first f = subst (λ (l : List Waiter). All (λ (y : Waiter). Arrived (y .task) (byQueue q h)) l) f (i .came q) .0
 
         Took : QueueCall → Effect Queue → Type 0
-        Took d x = whenOk Unit (TakenIn (domainAt s₀) (queueAt s₀ q .vector) (record { caller = t; asked = some (own d); answer = x .answer }) (byQueue q h) d) (x .answer .code)
+        Took d x = whenOk Unit (TakenIn (domainAt s₀) (queueAt s₀ q .vector) (record { caller = t; asked = some (own d); extended = y; answer = x .answer }) (byQueue q h) d) (x .answer .code)
 
-    take-here : (t : ℕ) (a : Act QueueCall) → Passed room s t q a
-        → TakenAllowed (domainAt s₀) (queueAt s₀ q .vector) (record { caller = t; asked = some a; answer = actOn room (s .fixed .tasks) (s .waits) (s .queues) t q a .answer }) (byQueue q h)
-    take-here t (own (send b w)) p = took t (send b w) tt (Queues.does (s .fixed .tasks) (s .waits) (s .queues) t q (send b w)) refl
-    take-here t (own (receive b)) p = took t (receive b) (may-receive q t (p .may)) (Queues.does (s .fixed .tasks) (s .waits) (s .queues) t q (receive b)) refl
-    take-here t (own (forcedSend w)) p = took t (forcedSend w) tt (Queues.does (s .fixed .tasks) (s .waits) (s .queues) t q (forcedSend w)) refl
-    take-here t refer p = tt
-    take-here t (setVector v) p = tt
+    take-here : (t : ℕ) (a : Act QueueCall) (y : Option ExtendedCall) → Passed room s t q a
+        → TakenAllowed (domainAt s₀) (queueAt s₀ q .vector) (record { caller = t; asked = some a; extended = y; answer = actOn room (s .fixed .tasks) (s .waits) (s .queues) t q a .answer }) (byQueue q h)
+    take-here t (own (send b w)) y p = took t y (send b w) tt (Queues.does (s .fixed .tasks) (s .waits) (s .queues) t q (send b w)) refl
+    take-here t (own (receive b)) y p = took t y (receive b) (may-receive q t (p .may)) (Queues.does (s .fixed .tasks) (s .waits) (s .queues) t q (receive b)) refl
+    take-here t (own (forcedSend w)) y p = took t y (forcedSend w) tt (Queues.does (s .fixed .tasks) (s .waits) (s .queues) t q (forcedSend w)) refl
+    take-here t refer y p = tt
+    take-here t (setVector v) y p = tt
 
     taken : (c : Call) → TakenAllowed (domainAt s₀) (queueAt s₀ q .vector) (seenBy (askedOf q) (event s c)) (byQueue q h)
-    taken c = sees room laws askedOf whose s q (λ m s′. TakenAllowed (domainAt s₀) (queueAt s₀ q .vector) m (byQueue q h)) (record { refused = λ t a e. tt; elsewhere = λ t a s′ e f. nothing (a .code); here = take-here }) c
+    taken c = sees room laws askedOf whose s q (λ m s′. TakenAllowed (domainAt s₀) (queueAt s₀ q .vector) m (byQueue q h)) (record { refused = λ t a x e. tt; elsewhere = λ t x a s′ e f. nothing (a .code); here = take-here }) c
 
     -- ---- who sent
     abbrev Sends : ℕ → List Sent → Type 0
@@ -269,9 +281,9 @@ module _ (s₀ s : State) (h : History) (i : Inv s₀ s h) where
 
     sent-allowed : (c : Call) → SentAllowed (domainAt s₀) (queueAt s₀ q .vector) (seenBy (askedOf q) (event s c)) (byQueue q h)
     sent-allowed c = sees room laws askedOf whose s q (λ m s′. SentAllowed (domainAt s₀) (queueAt s₀ q .vector) m (byQueue q h)) (record {
-      refused = λ t a e. tt;
-      elsewhere = λ t a s′ e f. none-sent t (a .code);
-      here = λ t a p. accepted t (ofOwn [] (sendIn (length (byQueue q h)) t) a) (actOn room (s .fixed .tasks) (s .waits) (s .queues) t q a .answer .code) (sent-here t a p);
+      refused = λ t a x e. tt;
+      elsewhere = λ t x a s′ e f. none-sent t (a .code);
+      here = λ t a x p. accepted t (ofOwn [] (sendIn (length (byQueue q h)) t) a) (actOn room (s .fixed .tasks) (s .waits) (s .queues) t q a .answer .code) (sent-here t a p);
     }) c
 
   next : (c : Call) → Inv s₀ (step s c .state) (event s c ∷ h)
@@ -281,6 +293,7 @@ module _ (s₀ s : State) (h : History) (i : Inv s₀ s h) where
     fixed = fixed-law s c ∙ i .fixed;
     capacity = λ q. ap (λ (x : Queue). x .capacity) (entries-law s c .0 q) ∙ i .capacity q;
     attribute = λ q. ap (λ (x : Queue). x .attribute) (entries-law s c .0 q) ∙ i .attribute q;
+    levels = tally-step s h (i .levels) c;
     vectors = λ q. set-law s q c ∙ ap (vectorBy (askedOf q (c .op)) (step s c .answer .code)) (i .vectors q);
     came = λ q. ends s (CameLaw q (c .op)) (came-ends q (c .op)) c refl;
   }
@@ -293,6 +306,7 @@ inv s₀ j [] = record {
   fixed = refl;
   capacity = λ q. refl;
   attribute = λ q. refl;
+  levels = tally-start s₀ j;
   vectors = λ q. refl;
   came = λ q. rw (j .noWaits) tt;
 }
@@ -396,20 +410,20 @@ module _ (s₀ s : State) (q : ℕ) (g : History) (i : Inv s₀ s g) (h : List (
   MovesLaw m s′ = map senderOf (waitersAt s′ (place sending q)) ≡ map senderIn (waitingSends (m ∷ h)) → Moves (queueAt s₀ q .capacity) (lineAt s₀ q) m h (queueAt s′ q .buffer)
 
   -- a call on this queue, by what it finds there
-  here : (t : ℕ) (a : Act QueueCall) → Passed room s t q a → (o : Effect Queue) → o ≡ actOn room (s .fixed .tasks) (s .waits) (s .queues) t q a
-      → Moves (queueAt s₀ q .capacity) (lineAt s₀ q) (record { caller = t; asked = some a; answer = o .answer }) h (Queues.queueIn (o .records) q .buffer)
-  here t a p o e =
-      subst (λ (x : Effect Queue). Moves (queueAt s₀ q .capacity) (lineAt s₀ q) (record { caller = t; asked = some a; answer = x .answer }) h (Queues.queueIn (x .records) q .buffer)) (sym e)
-      (subst₂ (λ (n : ℕ) (f : ℕ → ℕ). Moves n f (record { caller = t; asked = some a; answer = actOn room (s .fixed .tasks) (s .waits) (s .queues) t q a .answer }) h (Queues.queueIn (actOn room (s .fixed .tasks) (s .waits) (s .queues) t q a .records) q .buffer))
+  here : (t : ℕ) (a : Act QueueCall) (y : Option ExtendedCall) → Passed room s t q a → (o : Effect Queue) → o ≡ actOn room (s .fixed .tasks) (s .waits) (s .queues) t q a
+      → Moves (queueAt s₀ q .capacity) (lineAt s₀ q) (record { caller = t; asked = some a; extended = y; answer = o .answer }) h (Queues.queueIn (o .records) q .buffer)
+  here t a y p o e =
+      subst (λ (x : Effect Queue). Moves (queueAt s₀ q .capacity) (lineAt s₀ q) (record { caller = t; asked = some a; extended = y; answer = x .answer }) h (Queues.queueIn (x .records) q .buffer)) (sym e)
+      (subst₂ (λ (n : ℕ) (f : ℕ → ℕ). Moves n f (record { caller = t; asked = some a; extended = y; answer = actOn room (s .fixed .tasks) (s .waits) (s .queues) t q a .answer }) h (Queues.queueIn (actOn room (s .fixed .tasks) (s .waits) (s .queues) t q a .records) q .buffer))
       (i .capacity q) (line-stays i q)
-      (act-moves (s .fixed .tasks) (s .waits) (s .queues) t q (p .numbered) (p .there) (i .distinct) (i .fine q) h (subst (λ (n : ℕ). queueAt s q .buffer ≡ map wordOf (buffered n h)) (sym (i .capacity q)) words) then a))
+      (act-moves (s .fixed .tasks) (s .waits) (s .queues) t q (p .numbered) (p .there) (i .distinct) (i .fine q) h y (subst (λ (n : ℕ). queueAt s q .buffer ≡ map wordOf (buffered n h)) (sym (i .capacity q)) words) then a))
 
   pub moved : (c : Call) → MovesLaw (seenBy (askedOf q) (event s c)) (step s c .state)
   moved c = sees room laws askedOf whose s q MovesLaw (record {
-    refused = λ t a x now. refused-moves (lineAt s₀ q) (queueAt s₀ q .capacity) h (queueAt s q .buffer) words t a x;
-    elsewhere = λ t a s′ x f now. elsewhere-moves (lineAt s₀ q) (queueAt s₀ q .capacity) h (queueAt s q .buffer) words t a (waitersAt s (place sending q)) (queueAt s′ q .buffer) then
+    refused = λ t a y x now. refused-moves (lineAt s₀ q) (queueAt s₀ q .capacity) h (queueAt s q .buffer) words t a y x;
+    elsewhere = λ t y a s′ x f now. elsewhere-moves (lineAt s₀ q) (queueAt s₀ q .capacity) h (queueAt s q .buffer) words t y a (waitersAt s (place sending q)) (queueAt s′ q .buffer) then
         (ap (map senderOf) (sym (f (i .distinct) (place sending q) (is-at (laws .tag) q (place sending q) refl refl))) ∙ now) (ap (λ (z : Queue). z .buffer) x);
-    here = λ t a p now. here t a p (actOn room (s .fixed .tasks) (s .waits) (s .queues) t q a) refl;
+    here = λ t a y p now. here t a y p (actOn room (s .fixed .tasks) (s .waits) (s .queues) t q a) refl;
   }) c
 
 held : (s₀ : State) → JustClosed s₀ → (cs : List Call) (q : ℕ) → Held (queueAt s₀ q .capacity) (lineAt s₀ q) (byQueue q (history s₀ cs)) (queueAt (after s₀ cs) q .buffer)

@@ -3,7 +3,7 @@ use mathlib.Core.Path.{_≡_, refl, ap}
 use mathlib.Core.Logic.{inl}
 use mathlib.Core.Bool.{Bool, true, false}
 use mathlib.Core.List.{List, [], _∷_, _++_, map}
-use mathlib.Core.Option.{some}
+use mathlib.Core.Option.{none, some}
 use Prim.Native.Nat.{ℕ, suc, _≤_, _<_}
 use native.Mathlib.Omega.{arith}
 use lib.Dec.{eqb}
@@ -11,15 +11,16 @@ use lib.IntN.{pos, negsuc}
 use lib.ListN.{length, getD}
 use Rattle.itron.specs.Limits.{minUnit}
 use Rattle.access.specs.Patterns.{admitted}
-use Rattle.itron.specs.Codes.{Err, Code, ok, waiting, error, eOacv, eQovr, eTmout}
+use Rattle.itron.specs.Codes.{Err, Code, ok, waiting, error, eSys, eOacv, eQovr, eTmout}
 use Rattle.model.specs.Lists.{at, gathered}
-use Rattle.model.specs.State.{Vector, TaskEntry, Queue, onSem, receiving, sending, Place, Waiter, State, stateWith, setWaits, setSems, setQueues, place, sideNumber, waiter}
+use Rattle.model.specs.State.{Vector, TaskEntry, Queue, onSem, receiving, sending, Place, Waiter, State, stateWith, setWaits, setSems, setQueues, setLevels, place, sideNumber, waiter}
 use Rattle.model.specs.Answers.{Released, say}
 use Rattle.model.specs.Waits.{polling, forever}
 use Rattle.model.specs.Acts.{own, setVector}
 use Rattle.model.specs.Semaphores.{SemaphoreCall, signal, acquire}
 use Rattle.model.specs.Queues.{QueueCall, send, receive, forcedSend}
-use Rattle.model.specs.Calls.{Op, onSemaphore, onQueue, call}
+use Rattle.model.specs.ExtendedCalls.{Enter, Leave}
+use Rattle.model.specs.Calls.{Op, onSemaphore, onQueue, onLevel, call}
 use Rattle.model.specs.History.{Event, History, Made, askedIf}
 use Rattle.model.specs.SemaphoreClaims.{Counted}
 use Rattle.model.specs.Sends.{wordOf, entered, leaves}
@@ -133,6 +134,70 @@ waits-elsewhere d = d .queues 1 .takersAllowed .0 .0 .0
 -- even if it waited here before
 pub waited-before : Claims (did 1 (onQueue (pos 1) (own (send polling 700))) ok 0 (released 3 700) ∷ did 3 (onSemaphore (pos 1) (own (acquire forever))) waiting 0 [] ∷ did 3 (onQueue (pos 1) (own (receive forever))) waiting 0 [] ∷ []) [] → ⊥
 waited-before d = d .queues 1 .takersAllowed .0 .0 .0
+
+-- ---- "read the domain .. as this running domain at its call" (request T-03): the level is counted from the calls
+abbrev goesIn : ℕ → Event
+goesIn t = did t (onLevel Enter) ok 0 []
+
+abbrev comesOut : ℕ → Event
+comesOut t = did t (onLevel Leave) ok 0 []
+
+-- the claim of the calls h, which left the words b in queue 1 and these levels
+abbrev Leaves : History → List ℕ → List ℕ → Type 0
+Leaves h b ls = Demand3 start h (setLevels (table [] 0 b) ls)
+
+-- a denied task's send: after its enter was refused, after it left again, by another task's enter, before its own
+pub enter-refused : Leaves (sends 2 700 ∷ did 2 (onLevel Enter) (error eSys) 0 [] ∷ []) (700 ∷ []) (0 ∷ 0 ∷ []) → ⊥
+unfolding admitted
+enter-refused d = d .queues 1 .sendersAllowed .0 .0
+
+pub left-again : Leaves (sends 2 700 ∷ comesOut 2 ∷ goesIn 2 ∷ []) (700 ∷ []) (0 ∷ 0 ∷ []) → ⊥
+unfolding admitted
+left-again d = d .queues 1 .sendersAllowed .0 .0
+
+pub another-entered : Leaves (sends 2 700 ∷ goesIn 1 ∷ []) (700 ∷ []) (1 ∷ 0 ∷ []) → ⊥
+unfolding admitted
+another-entered d = d .queues 1 .sendersAllowed .0 .0
+
+pub entered-after : Leaves (goesIn 2 ∷ sends 2 700 ∷ []) (700 ∷ []) (0 ∷ 1 ∷ []) → ⊥
+unfolding admitted
+entered-after d = d .queues 1 .sendersAllowed .1 .0 .0
+
+-- as many leaves as enters, whatever their number
+pub left-twice : Leaves (sends 2 700 ∷ comesOut 2 ∷ comesOut 2 ∷ goesIn 2 ∷ goesIn 2 ∷ []) (700 ∷ []) (0 ∷ 0 ∷ []) → ⊥
+unfolding admitted
+left-twice d = d .queues 1 .sendersAllowed .0 .0
+
+-- who takes a word: its own receive, and a receiver that waited, which is judged as what it ran as when it called and not when it is served
+pub taker-left : Leaves (did 2 (onQueue (pos 1) (own (receive polling))) ok 700 [] ∷ comesOut 2 ∷ goesIn 2 ∷ sends 1 700 ∷ []) [] (0 ∷ 0 ∷ []) → ⊥
+unfolding admitted
+taker-left d = d .queues 1 .takersAllowed .0
+
+pub receiver-entered-later : Leaves (did 1 (onQueue (pos 1) (own (send polling 700))) ok 0 (released 2 700) ∷ goesIn 2 ∷ did 2 (onQueue (pos 1) (own (receive forever))) waiting 0 [] ∷ []) [] (0 ∷ 1 ∷ []) → ⊥
+unfolding admitted
+receiver-entered-later d = d .queues 1 .takersAllowed .0 .0 .1
+
+-- "level + accepted leaves = accepted enters": an enter that is not counted, or counted twice, or for another task; a leave that is not; one at level 0
+pub enter-uncounted : Leaves (goesIn 2 ∷ []) [] (0 ∷ 0 ∷ []) → ⊥
+enter-uncounted d = let e : _≡_ {A = ℕ} 0 1 = d .levels 2 in omega arith
+
+pub enter-counted-twice : Leaves (goesIn 2 ∷ []) [] (0 ∷ 2 ∷ []) → ⊥
+enter-counted-twice d = let e : _≡_ {A = ℕ} 2 1 = d .levels 2 in omega arith
+
+pub enter-of-another : Leaves (goesIn 2 ∷ []) [] (1 ∷ 1 ∷ []) → ⊥
+enter-of-another d = let e : _≡_ {A = ℕ} 1 0 = d .levels 1 in omega arith
+
+pub leave-uncounted : Leaves (comesOut 2 ∷ goesIn 2 ∷ []) [] (0 ∷ 1 ∷ []) → ⊥
+leave-uncounted d = let e : _≡_ {A = ℕ} 2 1 = d .levels 2 in omega arith
+
+pub left-at-0 : Leaves (comesOut 2 ∷ []) [] (0 ∷ 0 ∷ []) → ⊥
+left-at-0 d = let e : _≡_ {A = ℕ} 1 0 = d .levels 2 in omega arith
+
+pub refused-counted : Leaves (did 2 (onLevel Enter) (error eSys) 0 [] ∷ []) [] (0 ∷ 1 ∷ []) → ⊥
+refused-counted d = let e : _≡_ {A = ℕ} 1 0 = d .levels 2 in omega arith
+
+pub waiting-counted : Leaves (did 2 (onLevel Enter) waiting 0 [] ∷ []) [] (0 ∷ 1 ∷ []) → ⊥
+waiting-counted d = let e : _≡_ {A = ℕ} 1 0 = d .levels 2 in omega arith
 
 -- ---- "the waiting senders are also exactly the tasks whose send on that queue answered "waiting" .., each with that send's word"
 abbrev waits : Event
@@ -323,6 +388,9 @@ released-by-poll d = d .releases .0 .each .0 .waited
 pub released-by-set-vector : Claims (did 1 (onSemaphore (pos 1) (setVector (for 1))) ok 0 (released 3 0) ∷ acquires 3 ∷ []) [] → ⊥
 released-by-set-vector d = d .releases .0 .each .0 .waited
 
+pub released-by-enter : Leaves (did 1 (onLevel Enter) ok 0 (released 3 0) ∷ acquires 3 ∷ []) [] (1 ∷ []) → ⊥
+released-by-enter d = d .releases .0 .each .0 .waited
+
 -- and it goes on waiting
 pub released-and-waits : Demand3 start (did 1 (onQueue (pos 1) (own (receive forever))) waiting 0 (released 1 0) ∷ waits ∷ []) (table (waiter 1 receiving 1 0 ∷ []) 0 []) → ⊥
 released-and-waits d = d .releases .0 .each .0 .ended .0 refl
@@ -357,7 +425,7 @@ pub lost-anywhere : (q : ℕ) → Demand3 empty (did 1 (onQueue (pos (suc q)) (o
 lost-anywhere q d = go (eqb (suc q) (suc q)) (eqb-same (suc q)) (d .queues (suc q) .ordered)
   where
     seen : Bool → List (Made QueueCall)
-    seen b = record { caller = 1; asked = askedIf b (own (send polling 700)); answer = say ok 0 [] } ∷ []
+    seen b = record { caller = 1; asked = askedIf b (own (send polling 700)); extended = none; answer = say ok 0 [] } ∷ []
 
     go : (b : Bool) → b ≡ true → gathered (leaves 0) (seen b) ++ [] ≡ map wordOf (entered (seen b)) → ⊥
     go true h c = let e : _≡_ {A = ℕ} 0 1 = ap length c in omega arith
@@ -367,7 +435,7 @@ pub granted-anywhere : (i : ℕ) → Demand3 empty (did 1 (onSemaphore (pos (suc
 granted-anywhere i d = go (eqb (suc i) (suc i)) (eqb-same (suc i)) (d .semaphores (suc i))
   where
     seen : Bool → List (Made SemaphoreCall)
-    seen b = record { caller = 1; asked = askedIf b (own (acquire polling)); answer = say ok 0 [] } ∷ []
+    seen b = record { caller = 1; asked = askedIf b (own (acquire polling)); extended = none; answer = say ok 0 [] } ∷ []
 
     go : (b : Bool) → b ≡ true → Counted 0 (seen b) 0 → ⊥
     go true h c = let e : _≡_ {A = ℕ} 1 0 = c in omega arith
@@ -424,10 +492,10 @@ priorityIn t = at 0 (2 ∷ 1 ∷ 2 ∷ 1 ∷ 3 ∷ []) t
 
 -- task t's send of a word answered "waiting"; a receive, by task 4, handed out a word and released task t
 abbrev linesUp : ℕ → ℕ → Made QueueCall
-linesUp t w = record { caller = t; asked = some (own (send forever w)); answer = say waiting 0 [] }
+linesUp t w = record { caller = t; asked = some (own (send forever w)); extended = none; answer = say waiting 0 [] }
 
 abbrev takes : ℕ → ℕ → Made QueueCall
-takes w t = record { caller = 4; asked = some (own (receive polling)); answer = say ok w (released t 0) }
+takes w t = record { caller = 4; asked = some (own (receive polling)); extended = none; answer = say ok w (released t 0) }
 
 -- the claim of the calls h as a queue with the attribute a saw them, which left these senders, first to last
 abbrev Ranked : ℕ → List (Made QueueCall) → List Waiter → Type 0
@@ -484,7 +552,7 @@ abbrev Roomy : List (Made QueueCall) → List ℕ → List Waiter → Type 0
 Roomy h b senders = Carried (λ (t : ℕ). pos 1) priorityIn roomy h b senders
 
 abbrev buffered : Made QueueCall
-buffered = record { caller = 4; asked = some (own (send polling 700)); answer = say ok 0 [] }
+buffered = record { caller = 4; asked = some (own (send polling 700)); extended = none; answer = say ok 0 [] }
 
 pub urgent-behind-buffer : Roomy (linesUp 2 702 ∷ linesUp 1 701 ∷ buffered ∷ []) (700 ∷ []) (sender 1 701 ∷ sender 2 702 ∷ []) → ⊥
 urgent-behind-buffer d = let e : 2 ≤ 1 = d .inLines .0 .0 in omega arith
@@ -493,5 +561,5 @@ pub less-urgent-refills : Roomy (takes 700 1 ∷ linesUp 2 702 ∷ linesUp 1 701
 less-urgent-refills d = let e : 2 ≤ 1 = d .urgentFirst .0 .0 .1 .0 in omega arith
 
 -- a less urgent one enters by its own E_OK while a more urgent one waits: a receive hands out 700 and releases nobody, and then there is room
-pub less-urgent-enters : Roomy (record { caller = 1; asked = some (own (send polling 701)); answer = say ok 0 [] } ∷ record { caller = 4; asked = some (own (receive polling)); answer = say ok 700 [] } ∷ linesUp 2 702 ∷ buffered ∷ []) (701 ∷ []) (sender 2 702 ∷ []) → ⊥
+pub less-urgent-enters : Roomy (record { caller = 1; asked = some (own (send polling 701)); extended = none; answer = say ok 0 [] } ∷ record { caller = 4; asked = some (own (receive polling)); extended = none; answer = say ok 700 [] } ∷ linesUp 2 702 ∷ buffered ∷ []) (701 ∷ []) (sender 2 702 ∷ []) → ⊥
 less-urgent-enters d = let e : 2 ≤ 1 = d .urgentFirst .0 .0 .0 in omega arith

@@ -14,7 +14,7 @@ use Rattle.model.specs.Acts.{own, refer, setVector}
 use Rattle.model.specs.Rooms.{Asks}
 use Rattle.model.specs.Semaphores.{signal, acquire}
 use Rattle.model.specs.Queues.{send, receive, forcedSend}
-use Rattle.model.specs.Calls.{Op, onSemaphore, onQueue, Call, asks, step}
+use Rattle.model.specs.Calls.{Op, onSemaphore, onQueue, onLevel, Call, asks, step}
 use Rattle.model.specs.History.{event, after, history}
 use Rattle.model.specs.Releases.{servedBy, WaitsAt, WaitsNot, EndsWait, Once, ReleasesWaiters}
 use Rattle.model.proofs.Lists.{no-both, eqb-same}
@@ -34,6 +34,7 @@ served-is (onQueue n (own (receive p))) = refl
 served-is (onQueue n (own (forcedSend w))) = refl
 served-is (onQueue n refer) = refl
 served-is (onQueue n (setVector v)) = refl
+served-is (onLevel c) = refl
 
 -- ---- who stands first in a wait queue waits there; who has left does not wait
 waits-there : (ws : List Waiter) (p : Place) (e : Waiter) → Some (λ (x : Waiter). x ≡ e) (waitersIn ws p) → WaitsAt (some p) (e .task) ws

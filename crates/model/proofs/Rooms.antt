@@ -12,11 +12,12 @@ use lib.ListN.{length}
 use Rattle.access.specs.Vectors.{patternOf}
 use Rattle.itron.specs.Codes.{Err, eCtx, eId, ePar, eNoexs, eOacv, Code, ok, waiting, error}
 use Rattle.model.specs.Lists.{at, All}
-use Rattle.model.specs.State.{Vector, TaskEntry, Waiter, Side, onSem, receiving, sending, Place, State, setWaits, domainAt, no}
+use Rattle.model.specs.State.{Vector, TaskEntry, Waiter, Side, onSem, receiving, sending, Place, State, setWaits, setLevels, runningAt, no}
 use Rattle.model.specs.Answers.{whenOk, whenAccepted}
 use Rattle.model.specs.Waits.{absent, waitersIn, standing, orderOf, firstTask}
 use Rattle.model.specs.Acts.{Act, own, refer, setVector, ofOwn, operationOf, isRefer}
 use Rattle.model.specs.Rooms.{Room, ready, inRange, admits, vectorAt, slotsOf, check, actOn, Asks, onObject}
+use Rattle.model.specs.ExtendedCalls.{ExtendedCall, ofLevel}
 use Rattle.model.specs.History.{vectorBy}
 use Rattle.model.specs.Conditions.{Plain, Registered}
 use Rattle.model.proofs.Lists.{eq-of, and-left, and-right, no-both, both, eqb-same, eqb-no, Distinct, at-put-same}
@@ -117,12 +118,22 @@ pub record Calls (s : State) (t : ℕ) : Type 0 where
   pub known : t ≤ length (s .fixed .tasks)
   pub free : absent t (s .waits) ≡ true
 
+pub calls-of : (s : State) (t : ℕ) → ready s t ≡ true → Calls s t
+calls-of s t y =
+    let b : not (eqb t 0) && leb t (length (s .fixed .tasks)) ≡ true = and-left (not (eqb t 0) && leb t (length (s .fixed .tasks))) (absent t (s .waits)) y in
+    let l : leb t (length (s .fixed .tasks)) ≡ true = and-right (not (eqb t 0)) (leb t (length (s .fixed .tasks))) b in
+    record {
+      caller = λ e. no-both (and-left (not (eqb t 0)) (leb t (length (s .fixed .tasks))) b) (rw e refl);
+      known = leb→le t (length (s .fixed .tasks)) (rw l tt);
+      free = and-right (not (eqb t 0) && leb t (length (s .fixed .tasks))) (absent t (s .waits)) y;
+    }
+
 module _ {C R : Type 0} (r : Room C R) where
   pub record Passed (s : State) (t n : ℕ) (a : Act C) : Type 0 where
     pub calls : Calls s t
     pub numbered : n ≢ 0
     pub there : n ≤ length (r .records s)
-    pub may : admits (domainAt s t) (patternOf (vectorAt r s n) (operationOf (r .operation) a)) ≡ true
+    pub may : admits (runningAt s t) (patternOf (vectorAt r s n) (operationOf (r .operation) a)) ≡ true
 
   pub passed : (s : State) (t n : ℕ) (a : Act C) → check r s t n a ≡ none → Passed s t n a
   unfolding check
@@ -132,16 +143,9 @@ module _ {C R : Type 0} (r : Room C R) where
       let h₃ = passed-by (true-tells (slotsOf r s n a .arguments)) ePar _ (h₂ .1) in
       let h₄ = passed-by (true-tells (leb n (length (r .records s)))) eNoexs _ (h₃ .1) in
       let h₅ = passed-by (true-tells (slotsOf r s n a .numbers)) ePar _ (h₄ .1) in
-      let h₆ = passed-by (true-tells (admits (domainAt s t) (patternOf (vectorAt r s n) (operationOf (r .operation) a)))) eOacv _ (h₅ .1) in
-      let y : ready s t ≡ true = and-right (s .fixed .closed) (ready s t) (h₁ .0) in
-      let b : not (eqb t 0) && leb t (length (s .fixed .tasks)) ≡ true = and-left (not (eqb t 0) && leb t (length (s .fixed .tasks))) (absent t (s .waits)) y in
-      let l : leb t (length (s .fixed .tasks)) ≡ true = and-right (not (eqb t 0)) (leb t (length (s .fixed .tasks))) b in
+      let h₆ = passed-by (true-tells (admits (runningAt s t) (patternOf (vectorAt r s n) (operationOf (r .operation) a)))) eOacv _ (h₅ .1) in
       record {
-        calls = record {
-          caller = λ e. no-both (and-left (not (eqb t 0)) (leb t (length (s .fixed .tasks))) b) (rw e refl);
-          known = leb→le t (length (s .fixed .tasks)) (rw l tt);
-          free = and-right (not (eqb t 0) && leb t (length (s .fixed .tasks))) (absent t (s .waits)) y;
-        };
+        calls = calls-of s t (and-right (s .fixed .closed) (ready s t) (h₁ .0));
         numbered = λ e. no-both (and-left (not (eqb n 0)) (leb n (r .most)) (h₂ .0)) (rw e refl);
         there = leb→le n (length (r .records s)) (rw (h₄ .0) tt);
         may = h₆ .0;
@@ -185,6 +189,10 @@ pub record Stranger {C R : Type 0} (r : Room C R) (k : ℕ) (x : Asks) : Type 0 
   pub records : (s : State) (t : ℕ) → r .records (x .act s t .state) ≡ r .records s
   pub waits : (s : State) (t : ℕ) → Distinct (s .waits) → (p : Place) → roomOf (p .side) ≡ k → waitersIn (x .act s t .state .waits) p ≡ waitersIn (s .waits) p
   pub begins : (t : ℕ) → All (λ (e : Waiter). roomOf (e .place .side) ≢ k) (x .begins t)
+
+-- every call on the caller's level is one
+pub stranger-level : {C R : Type 0} (r : Room C R) (k : ℕ) → ((s : State) (ls : List ℕ) → r .records (setLevels s ls) ≡ r .records s) → (c : ExtendedCall) → Stranger r k (ofLevel c)
+stranger-level r k apart c = record { records = λ s t. apart s _; waits = λ s t d p h. refl; begins = λ t. tt }
 
 -- every call on an object of another room is one
 module _ {C R D S : Type 0} (r : Room C R) (k : ℕ) {q : Room D S} (l : RoomLaws q) (d : l .tag ≢ k)

@@ -15,12 +15,12 @@ use Rattle.model.specs.Acts.{Act, own, refer, setVector}
 use Rattle.model.specs.Rooms.{actOn}
 use Rattle.model.specs.Semaphores.{SemaphoreCall, semIn, setCount, waitersOf, room}
 use Rattle.model.specs.SemaphoreClaims.{askedOf, bySemaphore, signals, grants, Counted}
-use Rattle.model.specs.Calls.{Op, onSemaphore, onQueue, Call, step}
+use Rattle.model.specs.Calls.{Op, onSemaphore, onQueue, onLevel, Call, step}
 use Rattle.model.specs.Conditions.{SemEntryFits, Within, Spent}
 use Rattle.model.specs.History.{event, seenBy, vectorBy, after, history}
 use Rattle.model.proofs.Lists.{Distinct, at-put-same, at-put-keep}
 use Rattle.model.proofs.Order.{standing-none, standing-first}
-use Rattle.model.proofs.Rooms.{is-at, stranger}
+use Rattle.model.proofs.Rooms.{is-at, stranger, stranger-level}
 use Rattle.model.proofs.Semaphores.{bare, laws, cover, counts}
 use Rattle.model.proofs.Queues as QueueRoom
 use Rattle.model.proofs.Cover.{Whose, mine, foreign, sees, entries-stay, all-stay, vector-law}
@@ -29,6 +29,7 @@ use Rattle.model.proofs.Cover.{Whose, mine, foreign, sees, entries-stay
 pub whose : (op : Op) → Whose room laws askedOf op
 whose (onSemaphore n a) = mine n a refl (λ i. refl)
 whose (onQueue n a) = foreign (stranger room (laws .tag) QueueRoom.laws (λ h. let z : _≡_ {A = ℕ} 1 0 = h in omega arith) (λ s ws xs. refl) n a) (λ i. refl)
+whose (onLevel c) = foreign (stranger-level room (laws .tag) (λ s ls. refl) c) (λ i. refl)
 
 -- ---- an entry is kept as given: no call changes a semaphore's owner, attribute or limit, or the number of semaphores
 pub entries-law : (s : State) (c : Call) → ((i : ℕ) → bare (semAt (step s c .state) i) ≡ bare (semAt s i)) × (length (step s c .state .sems) ≡ length (s .sems))
@@ -49,9 +50,9 @@ unseen x y k e = ap (λ (z : ℕ). z + whenOk 0 0 k) e
 pub count-law : (s : State) (i : ℕ) (c : Call)
     → semAt (step s c .state) i .count + grants (seenBy (askedOf i) (event s c)) ≡ semAt s i .count + signals (seenBy (askedOf i) (event s c))
 count-law s i c = sees room laws askedOf whose s i (λ m s′. semAt s′ i .count + grants m ≡ semAt s i .count + signals m) (record {
-  refused = λ t a e. refl;
-  elsewhere = λ t a s′ e f. unseen (semAt s i .count) (semAt s′ i .count) (a .code) (ap (λ (x : Sem). x .count) e);
-  here = λ t a p. counts (s .fixed .tasks) (s .waits) (s .sems) t i (p .numbered) (p .there) a;
+  refused = λ t a x e. refl;
+  elsewhere = λ t x a s′ e f. unseen (semAt s i .count) (semAt s′ i .count) (a .code) (ap (λ (x : Sem). x .count) e);
+  here = λ t a x p. counts (s .fixed .tasks) (s .waits) (s .sems) t i (p .numbered) (p .there) a;
 }) c
 
 -- ---- a semaphore's count is at most its limit
@@ -74,9 +75,9 @@ within-here ts ws xs t i h r w (own c) = cover ts ws xs t i (λ c o. semIn (o .r
 
 pub within-step : (s : State) → Within s → (c : Call) → Within (step s c .state)
 within-step s w c i = sees room laws askedOf whose s i (λ m s′. semAt s′ i .count ≤ semAt s′ i .max) (record {
-  refused = λ t a e. w i;
-  elsewhere = λ t a s′ e f. subst (λ (x : Sem). x .count ≤ x .max) (sym e) (w i);
-  here = λ t a p. within-here (s .fixed .tasks) (s .waits) (s .sems) t i (p .numbered) (p .there) (w i) a;
+  refused = λ t a x e. w i;
+  elsewhere = λ t x a s′ e f. subst (λ (x : Sem). x .count ≤ x .max) (sym e) (w i);
+  here = λ t a x p. within-here (s .fixed .tasks) (s .waits) (s .sems) t i (p .numbered) (p .there) (w i) a;
 }) c
 
 -- ---- who waits on a semaphore finds its count at 0
@@ -117,9 +118,9 @@ module _ (ts : List TaskEntry) (ws : List Waiter) (xs : List Sem) (t i : ℕ) (k
 
 pub spent-step : (s : State) → Distinct (s .waits) → ((i : ℕ) → Spent s i) → (i : ℕ) (c : Call) → Spent (step s c .state) i
 spent-step s d k i c = sees room laws askedOf whose s i (λ m s′. Spent s′ i) (record {
-  refused = λ t a e. k i;
-  elsewhere = λ t a s′ e f. spent-same (s .waits) (s′ .waits) (s .sems) (s′ .sems) i (f d (place onSem i) (is-at (laws .tag) i (place onSem i) refl refl)) (ap (λ (z : Sem). z .count) e) (k i);
-  here = λ t a p. spent-here (s .fixed .tasks) (s .waits) (s .sems) t i (k i) a;
+  refused = λ t a x e. k i;
+  elsewhere = λ t x a s′ e f. spent-same (s .waits) (s′ .waits) (s .sems) (s′ .sems) i (f d (place onSem i) (is-at (laws .tag) i (place onSem i) refl refl)) (ap (λ (z : Sem). z .count) e) (k i);
+  here = λ t a x p. spent-here (s .fixed .tasks) (s .waits) (s .sems) t i (k i) a;
 }) c
 
 -- ---- the whole list

@@ -123,14 +123,14 @@ none-of k = (tt, omega arith)
 pub send-of : (m : Made QueueCall) (h : List (Made QueueCall)) → Of (length h) (sendOf m h)
 send-of m h = go (m .asked)
   where
-    by : (a : Act QueueCall) → Of (length h) (sendOf (record { caller = m .caller; asked = some a; answer = m .answer }) h)
+    by : (a : Act QueueCall) → Of (length h) (sendOf (record { caller = m .caller; asked = some a; extended = m .extended; answer = m .answer }) h)
     by (own (send p w)) = ((refl, tt), omega arith)
     by (own (receive p)) = none-of (length h)
     by (own (forcedSend w)) = ((refl, tt), omega arith)
     by refer = none-of (length h)
     by (setVector v) = none-of (length h)
 
-    go : (o : Option (Act QueueCall)) → Of (length h) (sendOf (record { caller = m .caller; asked = o; answer = m .answer }) h)
+    go : (o : Option (Act QueueCall)) → Of (length h) (sendOf (record { caller = m .caller; asked = o; extended = m .extended; answer = m .answer }) h)
     go none = none-of (length h)
     go (some a) = by a
 

@@ -5,7 +5,7 @@ use mathlib.Core.List.{List, [], _∷_}
 use Prim.Native.Nat.{ℕ, _≤_}
 use Rattle.itron.specs.Codes.{eCtx}
 use Rattle.model.specs.Lists.{All}
-use Rattle.model.specs.State.{Side, onSem, receiving, sending, Waiter, Fixed, State, setFixed, no}
+use Rattle.model.specs.State.{Side, onSem, receiving, sending, Waiter, Fixed, State, noLevels, setFixed, no}
 use Rattle.model.specs.Answers.{Out, refuse}
 use Rattle.model.specs.Waits.{isOther}
 use Rattle.model.specs.Rooms.{Asks}
@@ -13,6 +13,7 @@ use Rattle.model.specs.Calls.{Call, asks, actIf, step}
 use Rattle.model.specs.Conditions.{WaitsFit, RegionsFit, Fit, EntriesFit, sideCount, Registered, UnitFits, NoWords, Sound}
 use Rattle.model.proofs.Lists.{all-keep, all-snoc}
 use Rattle.model.proofs.Fits.{waits-leave, waits-join}
+use Rattle.model.proofs.LevelClaims.{levels-step}
 use Rattle.model.proofs.SemaphoreClaims as Semaphores
 use Rattle.model.proofs.QueueClaims as Queues
 use Rattle.model.proofs.Cover.{Endings, lawful, ends}
@@ -34,6 +35,7 @@ waits-ends s f = record {
 pub fit-step : (s : State) (c : Call) → Fit s → Fit (step s c .state)
 fit-step s c f = record {
   waits = subst (λ (x : Fixed). WaitsFit (x .tasks) (step s c .state .waits)) (sym (fixed-law s c)) (ends s (WaitsLaw s) (waits-ends s (f .waits)) c);
+  levels = levels-step s (f .levels) c;
   sems = rw (Semaphores.entries-law s c .1) (f .sems);
   queues = Queues.queues-step s (f .queues) c;
   regions = subst (λ (x : Fixed). RegionsFit (x .regions)) (sym (fixed-law s c)) (f .regions);
@@ -97,4 +99,5 @@ sound-step s c k = record {
   unit = subst UnitFits (sym (fixed-law s c)) (k .unit);
   quiet = still-open s c (λ (x : State). x .waits ≡ []) (k .quiet);
   empty = still-open s c (λ (x : State). All NoWords (x .queues)) (k .empty);
+  outside = still-open s c (λ (x : State). x .levels ≡ noLevels (x .fixed .tasks)) (k .outside);
 }

@@ -1,5 +1,5 @@
 -- Fresh, entries and closing give sound states. Assumes nothing.
-use mathlib.Core.Path.{_≡_, refl}
+use mathlib.Core.Path.{_≡_, refl, sym, ap, _∙_}
 use mathlib.Core.Logic.{inl}
 use mathlib.Core.Bool.{Bool, true, false, not, _&&_}
 use mathlib.Core.List.{List, [], _∷_, _++_}
@@ -16,12 +16,12 @@ use Rattle.model.specs.Conditions.{BufferFits, Bounded, Ascending, Whole
 use Rattle.model.specs.Lists.{at}
 use Rattle.model.specs.Semaphores.{newSem}
 use Rattle.model.specs.Queues.{wordsUsed, newQueue}
-use Rattle.model.specs.State.{Sem, Queue, Region, State, noSem, place}
+use Rattle.model.specs.State.{TaskEntry, Sem, Queue, Region, State, noSem, place}
 use Rattle.model.specs.Table.{Entry, task, sem, queue, region, testsOf, checkEntry, newTask, add, enterBy, enter, emptyState, freshBy, fresh, closeBy, close}
 use Rattle.itron.specs.Limits.{maxWords, maxDomains, minUnit}
 use Rattle.model.specs.Regions.{lastEnd, newRegion}
 use Rattle.model.specs.Units.{unitOk}
-use Rattle.model.proofs.Lists.{and-left, and-right, no-both, all-snoc}
+use Rattle.model.proofs.Lists.{and-left, and-right, no-both, map-append, all-snoc}
 use Rattle.model.proofs.Units.{unit-one}
 use Rattle.model.proofs.Entries.{told}
 
@@ -94,7 +94,7 @@ sound-add s (task d p) k t =
     let x = newTask d p in
     let a = length-append (s .fixed .tasks) (x ∷ []) in
     record {
-      fit = record { waits = record { tasks = omega arith; distinct = f .waits .distinct; known = rw w tt; plain = f .waits .plain }; sems = f .sems; queues = f .queues; regions = f .regions };
+      fit = record { waits = record { tasks = omega arith; distinct = f .waits .distinct; known = rw w tt; plain = f .waits .plain }; levels = record { each = let z = length-append (s .levels) (0 ∷ []) in let y = f .levels .each in omega arith; bounded = all-snoc _ (s .levels) 0 (f .levels .bounded) (omega arith) }; sems = f .sems; queues = f .queues; regions = f .regions };
       entries = record { domains = e .domains; tasks = all-snoc (TaskEntryFits (s .fixed .count)) (s .fixed .tasks) x (e .tasks) (g .owned .yes (t .owner), b .0, b .1); sems = e .sems; queues = e .queues; regions = e .regions };
       registered = rw w tt;
       within = k .within;
@@ -103,6 +103,7 @@ sound-add s (task d p) k t =
       unit = record { power = k .unit .power; whole = k .unit .whole };
       quiet = k .quiet;
       empty = k .empty;
+      outside = λ h. ap (λ (l : List ℕ). l ++ (0 ∷ [])) (k .outside h) ∙ sym (map-append (λ (y : TaskEntry). 0) (s .fixed .tasks) (x ∷ []));
     }
 sound-add s (sem d a b m v) k t =
     let w = k .quiet (t .opened) in
@@ -114,7 +115,7 @@ sound-add s (sem d a b m v) k t =
     let x = newSem d a b m v in
     let n = length-append (s .sems) (x ∷ []) in
     record {
-      fit = record { waits = f .waits; sems = omega arith; queues = f .queues; regions = f .regions };
+      fit = record { waits = f .waits; levels = f .levels; sems = omega arith; queues = f .queues; regions = f .regions };
       entries = record { domains = e .domains; tasks = e .tasks; sems = all-snoc (SemEntryFits (s .fixed .count)) (s .sems) x (e .sems) (g .owned .yes (t .owner), g .attribute .yes (t .attribute), c .0 .0, c .0 .1); queues = e .queues; regions = e .regions };
       registered = rw w tt;
       within = all-of (λ (y : Sem). y .count ≤ y .max) noSem (s .sems) x (omega arith) (c .1) (k .within);
@@ -123,6 +124,7 @@ sound-add s (sem d a b m v) k t =
       unit = k .unit;
       quiet = k .quiet;
       empty = k .empty;
+      outside = k .outside;
     }
 sound-add s (queue d a c v) k t =
     let w = k .quiet (t .opened) in
@@ -135,7 +137,7 @@ sound-add s (queue d a c v) k t =
     let u = used-snoc (s .queues) x in
     let l = leb-true (wordsUsed (s .queues) + c) maxWords (t .memory) in
     record {
-      fit = record { waits = k .fit .waits; sems = k .fit .sems; queues = record { few = omega arith; words = omega arith; buffers = all-snoc BufferFits (s .queues) x (f .buffers) (omega arith) }; regions = k .fit .regions };
+      fit = record { waits = k .fit .waits; levels = k .fit .levels; sems = k .fit .sems; queues = record { few = omega arith; words = omega arith; buffers = all-snoc BufferFits (s .queues) x (f .buffers) (omega arith) }; regions = k .fit .regions };
       entries = record { domains = e .domains; tasks = e .tasks; sems = e .sems; queues = all-snoc (QueueEntryFits (s .fixed .count)) (s .queues) x (e .queues) (g .owned .yes (t .owner), g .attribute .yes (t .attribute), g .numbers .yes (t .numbers)); regions = e .regions };
       registered = rw w tt;
       within = k .within;
@@ -144,6 +146,7 @@ sound-add s (queue d a c v) k t =
       unit = k .unit;
       quiet = k .quiet;
       empty = λ h. all-snoc NoWords (s .queues) x (k .empty h) refl;
+      outside = k .outside;
     }
 sound-add s (region d a b z v) k t =
     let w = k .quiet (t .opened) in
@@ -156,7 +159,7 @@ sound-add s (region d a b z v) k t =
     let n = length-append rs (x ∷ []) in
     let y = g .numbers .yes (t .numbers) in
     record {
-      fit = record { waits = k .fit .waits; sems = k .fit .sems; queues = k .fit .queues; regions = record { few = omega arith; bounded = all-snoc Bounded rs x (f .bounded) (y .0); ascending = ascending-snoc rs x (f .ascending) (leb-true (lastEnd rs) b (t .place)) } };
+      fit = record { waits = k .fit .waits; levels = k .fit .levels; sems = k .fit .sems; queues = k .fit .queues; regions = record { few = omega arith; bounded = all-snoc Bounded rs x (f .bounded) (y .0); ascending = ascending-snoc rs x (f .ascending) (leb-true (lastEnd rs) b (t .place)) } };
       entries = record { domains = e .domains; tasks = e .tasks; sems = e .sems; queues = e .queues; regions = all-snoc (RegionEntryFits (s .fixed .count)) rs x (e .regions) (g .owned .yes (t .owner), g .attribute .yes (t .attribute)) };
       registered = rw w tt;
       within = k .within;
@@ -165,6 +168,7 @@ sound-add s (region d a b z v) k t =
       unit = record { power = k .unit .power; whole = all-snoc (Whole (s .fixed .unit)) rs x (k .unit .whole) (y .1) };
       quiet = k .quiet;
       empty = k .empty;
+      outside = k .outside;
     }
 
 pub sound-enter : (s : State) (i : Entry) → Sound s → Sound (enter s i .state)
@@ -177,7 +181,7 @@ sound-enter s i k = go (checkEntry s i) refl
 
 sound-empty : (n unit : ℕ) → n ≤ maxDomains → unitOk unit ≡ true → Sound (emptyState n unit)
 sound-empty n unit h u = record {
-  fit = record { waits = record { tasks = omega arith; distinct = tt; known = tt; plain = tt }; sems = omega arith; queues = record { few = omega arith; words = omega arith; buffers = tt }; regions = record { few = omega arith; bounded = tt; ascending = tt } };
+  fit = record { waits = record { tasks = omega arith; distinct = tt; known = tt; plain = tt }; levels = record { each = refl; bounded = tt }; sems = omega arith; queues = record { few = omega arith; words = omega arith; buffers = tt }; regions = record { few = omega arith; bounded = tt; ascending = tt } };
   entries = record { domains = h; tasks = tt; sems = tt; queues = tt; regions = tt };
   registered = tt;
   within = λ i. none-at i;
@@ -186,6 +190,7 @@ sound-empty n unit h u = record {
   unit = record { power = u; whole = tt };
   quiet = λ h. refl;
   empty = λ h. tt;
+  outside = λ h. refl;
 }
   where
     none-at : (i : ℕ) → at noSem [] i .count ≤ at noSem [] i .max
@@ -208,7 +213,7 @@ sound-close s k = go (s .fixed .closed) refl
     go : (b : Bool) → s .fixed .closed ≡ b → Sound (closeBy b s .state)
     go true o = k
     go false o = record {
-      fit = record { waits = k .fit .waits; sems = k .fit .sems; queues = k .fit .queues; regions = k .fit .regions };
+      fit = record { waits = k .fit .waits; levels = k .fit .levels; sems = k .fit .sems; queues = k .fit .queues; regions = k .fit .regions };
       entries = record { domains = k .entries .domains; tasks = k .entries .tasks; sems = k .entries .sems; queues = k .entries .queues; regions = k .entries .regions };
       registered = rw (k .quiet o) tt;
       within = k .within;
@@ -217,6 +222,7 @@ sound-close s k = go (s .fixed .closed) refl
       unit = record { power = k .unit .power; whole = k .unit .whole };
       quiet = λ h. absurd (no-both {b = true} refl h);
       empty = λ h. absurd (no-both {b = true} refl h);
+      outside = λ h. absurd (no-both {b = true} refl h);
     }
 
 -- ---- a refused entry or closing changes nothing

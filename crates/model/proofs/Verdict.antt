@@ -13,7 +13,7 @@ use Rattle.itron.specs.Codes.{eCtx, eId, ePar, eNoexs, eObj, eMacv}
 use Rattle.itron.specs.Limits.{addressEnd}
 use Rattle.model.specs.Answers.{refuseIf}
 use Rattle.model.specs.Lists.{All}
-use Rattle.model.specs.State.{Region, State, setFixed, setUnit}
+use Rattle.model.specs.State.{Region, State, setFixed, setUnit, setLevels}
 use Rattle.model.specs.Regions.{mayRead, grants, allows, holds, inChain, fromHolder, judgeIn, areaOk, judge}
 use Rattle.model.specs.Table.{ownsTask}
 use Rattle.model.specs.Verdict.{verdict}
@@ -236,3 +236,8 @@ withUnit s u = setFixed s (setUnit (s .fixed) u)
 pub any-unit : (s : State) (u : ℕ) (d : ℤ) (base size w : ℕ) → verdict (withUnit s u) d base size w ≡ verdict s d base size w
 unfolding verdict
 any-unit s u d base size w = refl
+
+-- nor the levels: "The verdict asks with level 0" (request T-03)
+pub any-levels : (s : State) (ls : List ℕ) (d : ℤ) (base size w : ℕ) → verdict (setLevels s ls) d base size w ≡ verdict s d base size w
+unfolding verdict
+any-levels s ls d base size w = refl

@@ -13,16 +13,19 @@ use Rattle.model.specs.Semaphores as Semaphores
 use Rattle.model.specs.Semaphores.{SemaphoreCall}
 use Rattle.model.specs.Queues as Queues
 use Rattle.model.specs.Queues.{QueueCall}
+use Rattle.model.specs.ExtendedCalls.{ExtendedCall, ofLevel}
 
--- ---- the calls: on the semaphore or the data queue of a number
+-- ---- the calls: on the semaphore or the data queue of a number, and on the caller's own level
 pub data Op : Type 0 where
   onSemaphore : ℤ → Act SemaphoreCall → Op
   onQueue : ℤ → Act QueueCall → Op
+  onLevel : ExtendedCall → Op
 
 -- what the program is asked for
 abbrev pub opOf : Request → Op
 opOf (Requests.Semaphore n x) = onSemaphore n (Semaphores.actOf x)
 opOf (Requests.Queue n x) = onQueue n (Queues.actOf x)
+opOf (Requests.Extended c) = onLevel c
 
 -- the host says which task calls
 pub record Call : Type 0 where
@@ -36,6 +39,7 @@ call t op = record { caller = t; op = op }
 abbrev pub asks : Op → Asks
 asks (onSemaphore n a) = onObject Semaphores.room n a
 asks (onQueue n a) = onObject Queues.room n a
+asks (onLevel c) = ofLevel c
 
 -- ---- one call: the checks, then the effect
 abbrev pub actIf : State → ℕ → Asks → Option Err → Out

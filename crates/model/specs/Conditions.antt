@@ -6,9 +6,9 @@ use mathlib.Core.List.{List, [], _∷_}
 use Prim.Native.Nat.{ℕ, zero, suc, _≤_, _∣_}
 use lib.ListN.{length}
 use lib.IntN.{ℤ, pos, negsuc}
-use Rattle.itron.specs.Limits.{maxDomains, maxTasks, maxPriority, maxSemaphores, maxQueues, maxRegions, maxWords, maxCapacity, maxCount, addressEnd}
+use Rattle.itron.specs.Limits.{maxDomains, maxTasks, maxPriority, maxLevel, maxSemaphores, maxQueues, maxRegions, maxWords, maxCapacity, maxCount, addressEnd}
 use Rattle.model.specs.Lists.{All}
-use Rattle.model.specs.State.{TaskEntry, Sem, Waiter, Fixed, Side, onSem, receiving, sending, State, Queue, Region, place, queueAt, semAt}
+use Rattle.model.specs.State.{TaskEntry, Sem, Waiter, Fixed, Side, onSem, receiving, sending, State, Queue, Region, noLevels, place, queueAt, semAt}
 use Rattle.model.specs.Waits.{waitersAt, absent}
 use Rattle.model.specs.Queues.{wordsUsed}
 use Rattle.model.specs.Units.{unitOk}
@@ -38,6 +38,11 @@ pub record WaitsFit (entries : List TaskEntry) (waits : List Waiter) : Type 0 wh
   pub distinct : Distinct waits
   pub known : All (Known (length entries)) waits
   pub plain : All Plain waits
+
+-- ---- the levels: each task has one, from 0 to its limit
+pub record LevelsFit (entries : List TaskEntry) (levels : List ℕ) : Type 0 where
+  pub each : length levels ≡ length entries
+  pub bounded : All (λ (k : ℕ). k ≤ maxLevel) levels
 
 -- ---- the data queues: no more words than the capacity, and within the total
 abbrev pub BufferFits : Queue → Type 0
@@ -73,6 +78,7 @@ pub record UnitFits (f : Fixed) : Type 0 where
 -- ---- the state keeps the limits of documents 01 and 02
 pub record Fit (s : State) : Type 0 where
   pub waits : WaitsFit (s .fixed .tasks) (s .waits)
+  pub levels : LevelsFit (s .fixed .tasks) (s .levels)
   pub sems : length (s .sems) ≤ maxSemaphores
   pub queues : QueuesFit (s .queues)
   pub regions : RegionsFit (s .fixed .regions)
@@ -170,6 +176,7 @@ pub record Sound (s : State) : Type 0 where
   pub spent : (i : ℕ) → Spent s i
   pub fine : (q : ℕ) → QueueOk (qviewOf s q)
   pub unit : UnitFits (s .fixed)
-  -- before the table is closed nobody waits and nothing is buffered
+  -- before the table is closed nobody waits, nothing is buffered and every task is at level 0
   pub quiet : s .fixed .closed ≡ false → s .waits ≡ []
   pub empty : s .fixed .closed ≡ false → All NoWords (s .queues)
+  pub outside : s .fixed .closed ≡ false → s .levels ≡ noLevels (s .fixed .tasks)

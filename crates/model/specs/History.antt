@@ -9,7 +9,8 @@ use Rattle.model.specs.State.{Vector, Waiter, State, no}
 use Rattle.model.specs.Answers.{Released, Answer, whenOk, whenWaiting}
 use Rattle.model.specs.Waits.{isOther}
 use Rattle.model.specs.Acts.{Act, own, refer, setVector, ofOwn}
-use Rattle.model.specs.Calls.{Op, Call, asks, step}
+use Rattle.model.specs.ExtendedCalls.{ExtendedCall}
+use Rattle.model.specs.Calls.{Op, onSemaphore, onQueue, onLevel, Call, asks, step}
 
 -- an event: the state that a call got, the call, and its answer
 pub record Event : Type 0 where
@@ -47,15 +48,23 @@ abbrev pub pending : History → List Waiter
 pending [] = []
 pending (e ∷ h) = without (e .answer .released) (pending h) ++ joined e
 
--- ---- a history as one object sees it: of each call who made it, what was asked of this object (none where the call was on another), and the answer
+-- what a call does to its caller's level, if it is on that
+abbrev pub extendedOf : Op → Option ExtendedCall
+extendedOf (onSemaphore n a) = none
+extendedOf (onQueue n a) = none
+extendedOf (onLevel c) = some c
+
+-- ---- a history as one object sees it: of each call who made it, what was asked of this object (none where the call was on another), what it did to its caller's
+-- level, and the answer
 pub record Made (C : Type 0) : Type 0 where
   pub caller : ℕ
   pub asked : Option (Act C)
+  pub extended : Option ExtendedCall
   pub answer : Answer
 
 module _ {C : Type 0} where
   abbrev pub seenBy : (Op → Option (Act C)) → Event → Made C
-  seenBy f e = record { caller = no (e .call .caller); asked = f (e .call .op); answer = e .answer }
+  seenBy f e = record { caller = no (e .call .caller); asked = f (e .call .op); extended = extendedOf (e .call .op); answer = e .answer }
 
   -- what a call on an object of this kind asks of the object in question, by whether it is the one that the call names
   abbrev pub askedIf : Bool → Act C → Option (Act C)

@@ -7,6 +7,7 @@ pub mod Rooms
 pub mod Checks
 pub mod Semaphores
 pub mod Queues
+pub mod ExtendedCalls
 pub mod Units
 pub mod Regions
 pub mod Table
@@ -14,6 +15,7 @@ pub mod Verdict
 pub mod Calls
 pub mod Conditions
 pub mod History
+pub mod LevelClaims
 pub mod SemaphoreClaims
 pub mod Sends
 pub mod QueueClaims

@@ -13,14 +13,16 @@ use Rattle.model.specs.State.{Vector, Queue, Side, receiving, sending, W
 use Rattle.model.specs.Answers.{Released, whenOk, whenWaiting}
 use Rattle.model.specs.Acts.{Act, own, refer, setVector}
 use Rattle.model.specs.Queues.{QueueCall, send, receive, forcedSend}
-use Rattle.model.specs.Calls.{Op, onSemaphore, onQueue}
+use Rattle.model.specs.Calls.{Op, onSemaphore, onQueue, onLevel}
 use Rattle.model.specs.History.{History, Made, seenBy, askedIf, ofAsked, vectorSince}
+use Rattle.model.specs.LevelClaims.{runningWhen}
 use Rattle.model.specs.Sends.{Sent, wordOf, unforced, times, Ascending, accepts, acceptedOf, waitingSends, withdrawn, enters, entered, handed, findsFull, buffered, drops, dropped, hands, handedOut, leaves}
 
 -- ---- a history as queue q sees it
 abbrev pub askedOf : ℕ → Op → Option (Act QueueCall)
 askedOf q (onSemaphore n a) = none
 askedOf q (onQueue n a) = askedIf (eqb q (no n)) a
+askedOf q (onLevel c) = none
 
 abbrev pub byQueue : ℕ → History → List (Made QueueCall)
 byQueue q h = map (seenBy (askedOf q)) h
@@ -73,16 +75,16 @@ IsReceive (forcedSend w) = ⊥
 
 -- ---- who may: `domain` gives each task's, and the queue began with the vector v
 module _ (domain : ℕ → ℤ) (v : Vector) where
-  -- admitted when it called: by the pattern for that kind of call in the vector that held after the calls h
+  -- admitted when it called: its running domain, by the pattern for that kind of call in the vector that held after the calls h
   -- a send is normal operation 1
   abbrev pub maySend : ℕ → List (Made QueueCall) → Bool
-  maySend t h = admitted (vectorSince v h .normal1) (domain t)
+  maySend t h = admitted (vectorSince v h .normal1) (runningWhen domain t h)
 
   -- a receive is normal operation 2
   abbrev pub mayReceive : ℕ → List (Made QueueCall) → Bool
-  mayReceive t h = admitted (vectorSince v h .normal2) (domain t)
+  mayReceive t h = admitted (vectorSince v h .normal2) (runningWhen domain t h)
 
-  -- an accepted send came from a domain admitted when it called
+  -- an accepted send came from a running domain admitted when it called
   abbrev pub SentAllowed : Made QueueCall → List (Made QueueCall) → Type 0
   SentAllowed m h = All (λ (x : Sent). T (maySend (m .caller) h)) (accepts m h)
 
@@ -132,9 +134,9 @@ pub record Carried (domain : ℕ → ℤ) (priority : ℕ → ℕ) (x : Queue) (
   pub oneEach : Each (DropsOne (x .capacity)) h
   -- "Sends not forced still enter or pass in call order", and those that wait come behind: in each line
   pub inCallOrder : (k : ℕ) → Ascending (keep (λ (y : Sent). eqb k (lineOf priority x (y .task))) (keep unforced (entered h ++ waitingSends h)))
-  -- every accepted send came from a domain admitted when it called
+  -- every accepted send came from a running domain admitted when it called
   pub sendersAllowed : Each (SentAllowed domain (x .vector)) h
-  -- every word handed out went to a receiver whose domain was admitted when it called
+  -- every word handed out went to a receiver whose running domain was admitted when it called
   pub takersAllowed : Each (TakenAllowed domain (x .vector)) h
   -- the waiting senders are exactly the tasks whose send answered "waiting" and whose release no later answer shows, each with that send's word:
   -- in each line in call order, a more urgent line before a less urgent one

@@ -9,12 +9,12 @@ use Rattle.model.specs.Lists.{All, Some}
 use Rattle.model.specs.State.{Side, Place, Waiter, place, no}
 use Rattle.model.specs.Answers.{Released}
 use Rattle.model.specs.Acts.{ofOwn}
-use Rattle.model.specs.Calls.{Op, onSemaphore, onQueue}
+use Rattle.model.specs.Calls.{Op, onSemaphore, onQueue, onLevel}
 use Rattle.model.specs.History.{Event, History, pending}
 use Rattle.model.specs.SemaphoreClaims as Semaphores
 use Rattle.model.specs.QueueClaims as Queues
 
--- ---- the place whose waiting tasks a call serves; a refer and a set-vector serve nobody
+-- ---- the place whose waiting tasks a call serves; a refer, a set-vector and a call on the caller's level serve nobody
 abbrev pub placeOf : ℕ → Option Side → Option Place
 placeOf n none = none
 placeOf n (some d) = some (place d n)
@@ -22,6 +22,7 @@ placeOf n (some d) = some (place d n)
 abbrev pub servedBy : Op → Option Place
 servedBy (onSemaphore n a) = placeOf (no n) (ofOwn none Semaphores.servedIn a)
 servedBy (onQueue n a) = placeOf (no n) (ofOwn none Queues.servedIn a)
+servedBy (onLevel c) = none
 
 -- ---- task t is among those who wait, at that place; it is not among them
 abbrev pub WaitsAt : Option Place → ℕ → List Waiter → Type 0

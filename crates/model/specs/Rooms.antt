@@ -1,4 +1,4 @@
--- Rooms: what a kind of object is to every call, and the checks and the effect of a call on one of its objects (document 01, "Calls on an open gateway"). Definitions only.
+-- Rooms: what a kind of object is to every call, and the checks and the effect of a call on one of its objects (document 01, "Calls on an open gateway"; running domain: request T-03). Definitions only.
 use mathlib.Core.Bool.{Bool, not, _&&_}
 use mathlib.Core.List.{List, []}
 use mathlib.Core.Option.{Option, none}
@@ -11,7 +11,7 @@ use Rattle.access.specs.Vectors.{patternOf}
 use Rattle.access.specs.declared.vector.Operation.{Operation}
 use Rattle.itron.specs.Codes.{Err, Code, eCtx, eId, ePar, eNoexs, eOacv}
 use Rattle.model.specs.Lists.{at, put}
-use Rattle.model.specs.State.{Vector, TaskEntry, Place, Waiter, State, domainAt, no}
+use Rattle.model.specs.State.{Vector, TaskEntry, Place, Waiter, State, runningAt, no}
 use Rattle.model.specs.Answers.{Info, Effect, effect, Out, out, tells, refuseIf}
 use Rattle.model.specs.Waits.{absent, gives}
 use Rattle.model.specs.Acts.{Act, own, refer, setVector, ofOwn, operationOf, isRefer, Slots, clear}
@@ -59,7 +59,7 @@ module _ {C R : Type 0} (r : Room C R) where
   slotsOf s n a = ofOwn clear (r .slots (s .waits) (r .records s) n) a
 
   -- first hit wins: table not closed, or caller not a registered ready task: E_CTX; number out of range: E_ID; bad arguments: E_PAR; not registered: E_NOEXS;
-  -- numbers that do not fit the object: E_PAR; caller's domain not admitted: E_OACV; then the use of the object
+  -- numbers that do not fit the object: E_PAR; caller's running domain not admitted: E_OACV; then the use of the object
   unfoldable pub check : State → ℕ → ℕ → Act C → Option Err
   check s t n a =
       refuseIf (not (s .fixed .closed && ready s t)) eCtx
@@ -67,7 +67,7 @@ module _ {C R : Type 0} (r : Room C R) where
       (refuseIf (not (slotsOf s n a .arguments)) ePar
       (refuseIf (not (leb n (length (r .records s)))) eNoexs
       (refuseIf (not (slotsOf s n a .numbers)) ePar
-      (refuseIf (not (admits (domainAt s t) (patternOf (vectorAt s n) (operationOf (r .operation) a)))) eOacv
+      (refuseIf (not (admits (runningAt s t) (patternOf (vectorAt s n) (operationOf (r .operation) a)))) eOacv
       (slotsOf s n a .misuse))))))
 
   -- ---- then the effect, on the waiting tasks and the records

@@ -10,13 +10,14 @@ use Rattle.model.specs.State.{Vector, Side, onSem, no}
 use Rattle.model.specs.Answers.{Released, whenOk}
 use Rattle.model.specs.Acts.{Act, own, refer, setVector}
 use Rattle.model.specs.Semaphores.{SemaphoreCall, signal, acquire}
-use Rattle.model.specs.Calls.{Op, onSemaphore, onQueue}
+use Rattle.model.specs.Calls.{Op, onSemaphore, onQueue, onLevel}
 use Rattle.model.specs.History.{History, Made, seenBy, askedIf, ofAsked}
 
 -- ---- a history as semaphore i sees it
 abbrev pub askedOf : ℕ → Op → Option (Act SemaphoreCall)
 askedOf i (onSemaphore n a) = askedIf (eqb i (no n)) a
 askedOf i (onQueue n a) = none
+askedOf i (onLevel c) = none
 
 abbrev pub bySemaphore : ℕ → History → List (Made SemaphoreCall)
 bySemaphore i h = map (seenBy (askedOf i)) h

@@ -1,6 +1,6 @@
--- What the core holds (document 01, "What the core holds"). Definitions only.
+-- What the core holds (document 01, "What the core holds"; levels: request T-03). Definitions only.
 use mathlib.Core.Bool.{Bool, _&&_}
-use mathlib.Core.List.{List, []}
+use mathlib.Core.List.{List, [], map}
 use Prim.Native.Nat.{ℕ, zero}
 use lib.Dec.{eqb}
 use lib.IntN.{ℤ, pos, negsuc}
@@ -8,6 +8,7 @@ pub use Rattle.access.specs.declared.vector.Vector.{Vector}
 pub use Rattle.model.specs.declared.sem.Semaphore.{Semaphore as Sem}
 pub use Rattle.model.specs.declared.Side.{Side}
 pub use Rattle.model.specs.declared.Side.the-variants.{OnSem as onSem, Receiving as receiving, Sending as sending}
+use Rattle.access.specs.Domains.{runningOf}
 use Rattle.access.specs.Vectors.{uniform}
 use Rattle.model.specs.Lists.{at}
 
@@ -51,28 +52,36 @@ pub record Fixed : Type 0 where
   pub tasks : List TaskEntry
   pub regions : List Region
 
--- the state; `waits` has all waiting tasks in the order in which they began to wait, and a task that is not there is ready
+-- the state; `waits` has all waiting tasks in the order in which they began to wait, and a task that is not there is ready; `levels` has each task's level of extended service calls
 pub record State : Type 0 where
   pub fixed : Fixed
   pub waits : List Waiter
   pub sems : List Sem
   pub queues : List Queue
+  pub levels : List ℕ
+
+-- every task gets a level, "0 at first"
+abbrev pub noLevels : List TaskEntry → List ℕ
+noLevels ts = map (λ (t : TaskEntry). 0) ts
 
 -- ---- the state with another part: the only places where a whole state is written
 abbrev pub stateWith : Fixed → State
-stateWith f = record { fixed = f; waits = []; sems = []; queues = [] }
+stateWith f = record { fixed = f; waits = []; sems = []; queues = []; levels = noLevels (f .tasks) }
 
 abbrev pub setFixed : State → Fixed → State
-setFixed s f = record { fixed = f; waits = s .waits; sems = s .sems; queues = s .queues }
+setFixed s f = record { fixed = f; waits = s .waits; sems = s .sems; queues = s .queues; levels = s .levels }
 
 abbrev pub setWaits : State → List Waiter → State
-setWaits s ws = record { fixed = s .fixed; waits = ws; sems = s .sems; queues = s .queues }
+setWaits s ws = record { fixed = s .fixed; waits = ws; sems = s .sems; queues = s .queues; levels = s .levels }
 
 abbrev pub setSems : State → List Sem → State
-setSems s xs = record { fixed = s .fixed; waits = s .waits; sems = xs; queues = s .queues }
+setSems s xs = record { fixed = s .fixed; waits = s .waits; sems = xs; queues = s .queues; levels = s .levels }
 
 abbrev pub setQueues : State → List Queue → State
-setQueues s xs = record { fixed = s .fixed; waits = s .waits; sems = s .sems; queues = xs }
+setQueues s xs = record { fixed = s .fixed; waits = s .waits; sems = s .sems; queues = xs; levels = s .levels }
+
+abbrev pub setLevels : State → List ℕ → State
+setLevels s ks = record { fixed = s .fixed; waits = s .waits; sems = s .sems; queues = s .queues; levels = ks }
 
 -- what is fixed, with another part
 abbrev pub setClosed : Fixed → Bool → Fixed
@@ -122,6 +131,13 @@ domainAt s t = taskAt s t .domain
 
 abbrev pub priorityAt : State → ℕ → ℕ
 priorityAt s t = taskAt s t .priority
+
+abbrev pub levelAt : State → ℕ → ℕ
+levelAt s t = at 0 (s .levels) t
+
+-- the domain as which a task runs: its own, or inside extended service calls the kernel domain
+abbrev pub runningAt : State → ℕ → ℤ
+runningAt s t = runningOf (domainAt s t) (levelAt s t)
 
 -- ---- places
 abbrev pub place : Side → ℕ → Place

@@ -9,7 +9,7 @@ use lib.IntN.{ℤ, pos, negsuc}
 use Rattle.access.specs.declared.vector.Choice.{Choice}
 use Rattle.itron.specs.Codes.{Err, eCtx, eId, eNoid, eRsatr, ePar, eObj, eNomem}
 use Rattle.itron.specs.Limits.{maxDomains, maxTasks, maxPriority, maxSemaphores, maxQueues, maxRegions, minUnit}
-use Rattle.model.specs.State.{TaskEntry, State, stateWith, setFixed, setSems, setQueues, setClosed, setTasks, setRegions}
+use Rattle.model.specs.State.{TaskEntry, State, stateWith, setFixed, setSems, setQueues, setLevels, setClosed, setTasks, setRegions}
 use Rattle.model.specs.Answers.{Out, refuse, done, refuseIf}
 use Rattle.model.specs.Semaphores as Semaphores
 use Rattle.model.specs.Queues as Queues
@@ -83,12 +83,12 @@ checkEntry s e =
     (refuseIf (not (testsOf s e .placeOk)) eObj
     (refuseIf (not (testsOf s e .memoryOk)) eNomem none))))))
 
--- ---- an entry is kept as given, last of its kind, the default vector resolved, and nothing else changes
+-- ---- an entry is kept as given, last of its kind, the default vector resolved, a task at level 0, and nothing else changes
 abbrev pub newTask : ℤ → ℕ → TaskEntry
 newTask d p = record { domain = d; priority = p }
 
 abbrev pub add : State → Entry → State
-add s (task d p) = setFixed s (setTasks (s .fixed) (s .fixed .tasks ++ (newTask d p ∷ [])))
+add s (task d p) = setLevels (setFixed s (setTasks (s .fixed) (s .fixed .tasks ++ (newTask d p ∷ [])))) (s .levels ++ (0 ∷ []))
 add s (sem d a b m v) = setSems s (s .sems ++ (Semaphores.newSem d a b m v ∷ []))
 add s (queue d a c v) = setQueues s (s .queues ++ (Queues.newQueue d a c v ∷ []))
 add s (region d a b z v) = setFixed s (setRegions (s .fixed) (s .fixed .regions ++ (Regions.newRegion d a b z v ∷ [])))

@@ -3,12 +3,14 @@ ghost use mathlib.Core.Path.{_≡_};
 ghost use Rattle.model.specs.Answers.{plain};
 use crate::dtq::QueueRequest;
 use crate::sem::SemaphoreRequest;
+use crate::svc::ExtendedCall;
 use access::vector::Vector;
 
 pub mod attribute;
 pub mod check;
 pub mod dtq;
 pub mod sem;
+pub mod svc;
 
 // What a call answers: a code, or that the caller waits.
 pub enum Outcome {
@@ -74,8 +76,9 @@ pub enum Side {
     Sending,
 }
 
-// A call's object by its kind and number, and what is asked of it.
+// A call's object by its kind and number, and what is asked of it; or what the caller does to its own level.
 pub enum Request {
     Semaphore(i32, SemaphoreRequest),
     Queue(i32, QueueRequest),
+    Extended(ExtendedCall),
 }

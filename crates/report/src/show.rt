@@ -25,6 +25,7 @@ pub fn put_answer(out: &mut [u8; BLOCK], at: usize, request: Request, answer: An
     match request {
         Request::Semaphore(_, asked) => sem::put_answer(out, at, asked, answer),
         Request::Queue(_, asked) => dtq::put_answer(out, at, asked, answer),
+        Request::Extended(_) => put_reply(out, at, answer),
     }
 }
 

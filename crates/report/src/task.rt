@@ -34,6 +34,7 @@ pub fn put_task(out: &mut [u8; BLOCK], at: usize, state: State, number: usize) -
     let task = state.task(number);
     let at = put_head(out, at, b"  task ", number, task.domain());
     let at = put_wait(out, at, task.wait());
+    let at = put_named(out, at, b" level=", state.level(number) as u64);
     let at = put_named(out, at, b" priority=", task.priority() as u64);
     put_byte(out, at, LF)
 }

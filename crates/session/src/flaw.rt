@@ -5,12 +5,21 @@ use report::output::BLOCK;
 use report::output::put;
 use report::output::put_number;
 
+// `1 number` or `2 numbers`
+fn put_numbers(out: &mut [u8; BLOCK], at: usize, count: usize) -> usize {
+    let at = put_number(out, at, count as u64);
+    if count == 1 {
+        return put(out, at, b" number");
+    }
+    put(out, at, b" numbers")
+}
+
 // `1 or 2 numbers wanted, 3 given`
 fn put_count(out: &mut [u8; BLOCK], at: usize, fewest: usize, most: usize, given: usize) -> usize {
     let at = put(out, at, b": ");
     let at = put_choice(out, at, fewest, most);
-    let at = put_number(out, at, most as u64);
-    let at = put(out, at, b" numbers wanted, ");
+    let at = put_numbers(out, at, most);
+    let at = put(out, at, b" wanted, ");
     let at = put_number(out, at, given as u64);
     put(out, at, b" given")
 }

@@ -1,4 +1,4 @@
-// Result codes by their names (document 01, "Codes a desk clerk sees"; E_ILUSE: request T-05).
+// Result codes by their names (document 01, "Codes a desk clerk sees"; E_SYS: request T-03; E_ILUSE: request T-05).
 ghost use mathlib.Core.Path.{_≡_};
 ghost use lib.ListN.{length};
 ghost use Rattle.io.specs.Counts.{Counts};
@@ -16,6 +16,7 @@ use itron::code::E_OK;
 use itron::code::E_PAR;
 use itron::code::E_QOVR;
 use itron::code::E_RSATR;
+use itron::code::E_SYS;
 use itron::code::E_TMOUT;
 
 // No name is longer.
@@ -44,6 +45,7 @@ pub fn put_name(out: &mut [u8; LONGEST_NAME], number: i32) -> usize
 {
     match number {
         E_OK => put(out, b"E_OK"),
+        E_SYS => put(out, b"E_SYS"),
         E_RSATR => put(out, b"E_RSATR"),
         E_PAR => put(out, b"E_PAR"),
         E_ID => put(out, b"E_ID"),

@@ -6,4 +6,5 @@ pub mod each;
 pub mod mem;
 pub mod order;
 pub mod sem;
+pub mod svc;
 pub mod table;

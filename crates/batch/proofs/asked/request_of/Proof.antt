@@ -56,6 +56,12 @@ of-queue-requires-6 c κs = search needs
 of-queue-requires-7 : tie.Need-of-queue-requires-7
 of-queue-requires-7 c κs = search needs
 
+of-level-requires : tie.Need-of-level-requires
+of-level-requires c κs = search needs
+
+of-level-requires-2 : tie.Need-of-level-requires-2
+of-level-requires-2 c κs = search needs
+
 returns : tie.Need-returns
 returns c = let x = c .before in ap (meaningOf (x .before .before .before .args .numbers .caller)) (c .of-semaphore .ensures) ∙ meaning (x .before) 1 (x .match .keys1)
 
@@ -93,7 +99,13 @@ returns-12 : tie.Need-returns-12
 returns-12 c = let x = c .before in ap (meaningOf (x .before .before .before .args .numbers .caller)) (c .of-queue7 .ensures) ∙ meaning (x .before) 12 (x .match .keys12)
 
 returns-13 : tie.Need-returns-13
-returns-13 c = meant-nothing (c .before .before .before .args .numbers) (c .match .rest)
+returns-13 c = let x = c .before in ap (meaningOf (x .before .before .before .args .numbers .caller)) (c .of-level .ensures) ∙ meaning (x .before) 13 (x .match .keys13)
+
+returns-14 : tie.Need-returns-14
+returns-14 c = let x = c .before in ap (meaningOf (x .before .before .before .args .numbers .caller)) (c .of-level2 .ensures) ∙ meaning (x .before) 14 (x .match .keys14)
+
+returns-15 : tie.Need-returns-15
+returns-15 c = meant-nothing (c .before .before .before .args .numbers) (c .match .rest)
 
 pub request-of-spec : {M : Type 1} → statement M
 request-of-spec =
@@ -111,6 +123,8 @@ request-of-spec =
     of-queue-requires-5
     of-queue-requires-6
     of-queue-requires-7
+    of-level-requires
+    of-level-requires-2
     returns
     returns-2
     returns-3
@@ -123,4 +137,6 @@ request-of-spec =
     returns-10
     returns-11
     returns-12
-    returns-13)
+    returns-13
+    returns-14
+    returns-15)

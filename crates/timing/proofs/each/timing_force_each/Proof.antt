@@ -1,5 +1,5 @@
 -- `each::timing_force_each` is safe and ends: the state stays valid. Assumes nothing.
-use Prim.Native.Nat.{_≤_, _<_, _-_}
+use Prim.Native.Nat.{_≤_, _<_, _-_, _*_, _^_}
 use lib.ListN.{length}
 use borrow.Author.Needs.{needs}
 use Rattle.kernel.specs.Valid.{Valid}
@@ -7,13 +7,13 @@ use Rattle.timing.proofs.each.timing_force_each.Statement.{statement}
 use Rattle.timing.proofs.each.timing_force_each.Tie as tie
 
 abbrev Inv-loop2 : tie.InvT-loop2
-Inv-loop2 rounds capacity task before ids start count sum₀ round s₀ i₀ sum s i = (i ≤ count) × (count ≤ length ids) × (round < rounds) × Valid start × Valid s
+Inv-loop2 rounds capacity task before ids start count sum₀ round s₀ i₀ sum s i = (i ≤ count) × (count ≤ length ids) × (4 * count < 2 ^ 64) × (round < rounds) × Valid start × Valid s
 
 abbrev μ-loop2 : tie.MeasureT-loop2
 μ-loop2 rounds capacity task before ids start count sum₀ round s₀ i₀ sum s i = count - i
 
 abbrev Inv-loop : tie.InvT-loop
-Inv-loop rounds capacity task before ids start count sum₀ round₀ sum round = (round ≤ rounds) × (count ≤ length ids) × Valid start
+Inv-loop rounds capacity task before ids start count sum₀ round₀ sum round = (round ≤ rounds) × (count ≤ length ids) × (4 * count < 2 ^ 64) × Valid start
 
 abbrev μ-loop : tie.MeasureT-loop
 μ-loop rounds capacity task before ids start count sum₀ round₀ sum round = rounds - round

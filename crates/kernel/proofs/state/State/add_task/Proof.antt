@@ -1,15 +1,18 @@
 -- `State::add_task` meets its contract. Assumes nothing.
 use borrow.Author.Needs.{needs}
+use native.Mathlib.Omega.{arith}
 use mathlib.Core.Path.{_≡_, sym, ap, _∙_}
 use mir.Syntax.{w32}
 use mir.Val.{toZ, ofZ}
 use mir.Facts.{toZ-ofZ}
 use mathlib.Core.Option.{none}
 use lib.IntN.{ℤ}
-use Rattle.model.specs.Table.{task, checkEntry}
+use Rattle.model.specs.Table.{task, checkEntry, add}
 use Rattle.kernel.specs.View.{viewOf}
 use Rattle.kernel.specs.Answers.{entered}
-use Rattle.kernel.specs.Inside.{withTasks}
+use Rattle.levels.proofs.Back.{more-form}
+use Rattle.kernel.specs.Form.{stateOf}
+use Rattle.kernel.specs.Inside.{withTasks, withLevels}
 use Rattle.kernel.proofs.Back.{tasks-held}
 use Rattle.kernel.proofs.Building.{passed-none, refuses-entry, takes-entry, task-room, task-fits}
 use Rattle.kernel.proofs.state.State.add_task.Statement.{statement}
@@ -57,7 +60,10 @@ returns-2 c =
     let a = b .args in
     let f = b .pre .form in
     let e = rw (toZ-ofZ (b .fits .domain)) at (c .before .add .ensures) in
-    takes-entry (b .pre) (task (a .domain) (a .priority)) (passes q) (λ i. withTasks (f i) (e i)) (c .enter2 .ensures)
+    let n = b .pre .sound .fit .levels .each in
+    let r = task-room (viewOf (a .self)) (a .domain) (a .priority) (passes q) .0 in
+    let k = more-form (viewOf (a .self) .levels) (omega arith) in
+    takes-entry (b .pre) (task (a .domain) (a .priority)) (passes q) ((λ i. withTasks (f i) (e i)) ∙ ap (withLevels (stateOf (add (viewOf (a .self)) (task (a .domain) (a .priority))))) k) (c .enter2 .ensures)
 
 pub add-task-spec : {M : Type 1} → statement M
 add-task-spec =

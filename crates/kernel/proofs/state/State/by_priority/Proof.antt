@@ -5,7 +5,7 @@ use Rattle.model.specs.Waits.{byPriority}
 use Rattle.model.specs.declared.sem.Semaphore.{Semaphore}
 use Rattle.dataqueue.specs.declared.state.QueueInfo.{QueueInfo}
 use Rattle.kernel.specs.View.{viewOf}
-use Rattle.kernel.proofs.Places.{order-on-sem, order-sending}
+use Rattle.kernel.proofs.Places.{order-on-sem, order-receiving, order-sending}
 use Rattle.kernel.proofs.state.State.by_priority.Statement.{statement}
 use Rattle.kernel.proofs.state.State.by_priority.Tie as tie
 
@@ -38,7 +38,7 @@ returns c =
     order-on-sem (viewOf (a .self)) (a .side) (a .number) (m .match .keys1) (c .by-priority .ensures ∙ ap (λ (x : Semaphore). byPriority (x .attribute)) (s .semaphore .ensures))
 
 returns-2 : tie.Need-returns-2
-returns-2 c = search needs
+returns-2 c = let m = c .before in let a = m .before .args in order-receiving (viewOf (a .self)) (a .side) (a .number) (m .match .keys2)
 
 returns-3 : tie.Need-returns-3
 returns-3 c =

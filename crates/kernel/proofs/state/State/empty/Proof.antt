@@ -6,6 +6,9 @@ use Rattle.kernel.proofs.state.State.empty.Tie as tie
 empty-requires : tie.Need-empty-requires
 empty-requires c κs = search needs
 
+outside-requires : tie.Need-outside-requires
+outside-requires c κs = search needs
+
 empty-requires-2 : tie.Need-empty-requires-2
 empty-requires-2 c κs = search needs
 
@@ -20,4 +23,4 @@ returns c = cc
 
 pub empty-spec : {M : Type 1} → statement M
 empty-spec =
-    tie.close (tie.spec empty-requires empty-requires-2 empty-requires-3 empty-requires-4 returns)
+    tie.close (tie.spec empty-requires outside-requires empty-requires-2 empty-requires-3 empty-requires-4 returns)
