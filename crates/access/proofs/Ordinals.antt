@@ -1,4 +1,4 @@
--- Laws of `ordinalOf`, by the sign of the number. Assumes nothing.
+-- Laws of `ordinal_of`, by the sign of the number. Assumes nothing.
 use Prim.Native.Nat.{ℕ, zero, suc, ◌≤◌, ◌<◌}
 use native.Mathlib.Omega.{arith}
 use mathlib.Core.Path.{◌≡◌, refl, ap}
@@ -7,55 +7,55 @@ use lib.IntN.{ℤ, pos, negsuc, nat_abs}
 use lib.Signed.{lt_z, non_neg}
 use lib.Dec.{T, leb}
 use borrow.Author.Tests.{le-leb, lt-leb, ltb-true, ltb-false, leb-true, leb-false}
-use Rattle.access.specs.Domains.{ordinalOf}
+use Rattle.access.specs.Domains.{ordinal_of}
 
 -- a number below 1
-pub ordinal-low : (z : ℤ) (n : ℕ) → lt_z z (pos 1) ≡ true → 0 ≡ ordinalOf z n
-unfolding ordinalOf
-ordinal-low (negsuc k) n h = refl
-ordinal-low (pos zero) n h = simp (le-leb 0 n (omega arith))
-ordinal-low (pos (suc k)) n h = absurd (let l = ltb-true (suc k) 1 h in omega arith)
+pub ordinal_low : (z : ℤ) (n : ℕ) → lt_z z (pos 1) ≡ true → 0 ≡ ordinal_of z n
+unfolding ordinal_of
+ordinal_low (negsuc k) n h = refl
+ordinal_low (pos zero) n h = simp (le-leb 0 n (omega arith))
+ordinal_low (pos (suc k)) n h = absurd (let l = ltb-true (suc k) 1 h in omega arith)
 
 -- a number of at least m is not negative, and is its magnitude
-pub not-below : (z : ℤ) (m : ℕ) → lt_z z (pos m) ≡ false → (z ≡ pos (nat_abs z)) × (m ≤ nat_abs z)
-not-below (pos k) m h = (refl, ltb-false k m h)
-not-below (negsuc k) m h = absurd (let e : ◌≡◌ {A = ℕ} 0 1 = cc in omega arith)
+pub not_below : (z : ℤ) (m : ℕ) → lt_z z (pos m) ≡ false → (z ≡ pos (nat_abs z)) × (m ≤ nat_abs z)
+not_below (pos k) m h = (refl, ltb-false k m h)
+not_below (negsuc k) m h = absurd (let e : ◌≡◌ {A = ℕ} 0 1 = cc in omega arith)
 
-pub not-below-sign : (z : ℤ) (m : ℕ) → lt_z z (pos m) ≡ false → T (non_neg z)
-not-below-sign (pos k) m h = tt
-not-below-sign (negsuc k) m h = absurd (let e : ◌≡◌ {A = ℕ} 0 1 = cc in omega arith)
+pub not_below_sign : (z : ℤ) (m : ℕ) → lt_z z (pos m) ≡ false → T (non_neg z)
+not_below_sign (pos k) m h = tt
+not_below_sign (negsuc k) m h = absurd (let e : ◌≡◌ {A = ℕ} 0 1 = cc in omega arith)
 
-pub ordinal-over : (z : ℤ) (n : ℕ) → lt_z z (pos 1) ≡ false → n < nat_abs z → 0 ≡ ordinalOf z n
-unfolding ordinalOf
-ordinal-over z n h l = rw (not-below z 1 h).0 (simp (lt-leb (nat_abs z) n l))
+pub ordinal_over : (z : ℤ) (n : ℕ) → lt_z z (pos 1) ≡ false → n < nat_abs z → 0 ≡ ordinal_of z n
+unfolding ordinal_of
+ordinal_over z n h l = rw (not_below z 1 h).0 (simp (lt-leb (nat_abs z) n l))
 
-pub ordinal-in : (z : ℤ) (n : ℕ) → lt_z z (pos 1) ≡ false → nat_abs z ≤ n → nat_abs z ≡ ordinalOf z n
-unfolding ordinalOf
-ordinal-in z n h l = rw (not-below z 1 h).0 (simp (le-leb (nat_abs z) n l))
+pub ordinal_in : (z : ℤ) (n : ℕ) → lt_z z (pos 1) ≡ false → nat_abs z ≤ n → nat_abs z ≡ ordinal_of z n
+unfolding ordinal_of
+ordinal_in z n h l = rw (not_below z 1 h).0 (simp (le-leb (nat_abs z) n l))
 
 -- an ordinal is at most the limit
-pub ordinal-le : (z : ℤ) (n : ℕ) → ordinalOf z n ≤ n
-unfolding ordinalOf
-ordinal-le (negsuc k) n = omega arith
-ordinal-le (pos k) n = go (leb k n) refl
+pub ordinal_le : (z : ℤ) (n : ℕ) → ordinal_of z n ≤ n
+unfolding ordinal_of
+ordinal_le (negsuc k) n = omega arith
+ordinal_le (pos k) n = go (leb k n) refl
   where
     go : (b : Bool) → leb k n ≡ b → cond b k 0 ≤ n
     go true e = leb-true k n e
     go false e = omega arith
 
 -- the user domain that an ordinal stands for
-pub ordinal-user : (z : ℤ) (n k : ℕ) → ordinalOf z n ≡ suc k → (z ≡ pos (suc k)) × (k < n)
-unfolding ordinalOf
-ordinal-user (negsuc j) n k h = absurd (omega arith)
-ordinal-user (pos j) n k h = go (leb j n) refl h
+pub ordinal_user : (z : ℤ) (n k : ℕ) → ordinal_of z n ≡ suc k → (z ≡ pos (suc k)) × (k < n)
+unfolding ordinal_of
+ordinal_user (negsuc j) n k h = absurd (omega arith)
+ordinal_user (pos j) n k h = go (leb j n) refl h
   where
     go : (b : Bool) → leb j n ≡ b → cond b j 0 ≡ suc k → (pos j ≡ pos (suc k)) × (k < n)
     go true e h' = (ap pos h', let l = leb-true j n e in omega arith)
     go false e h' = absurd (omega arith)
 
-pub ordinal-none : (k n : ℕ) → ordinalOf (pos (suc k)) n ≡ 0 → n ≤ k
-unfolding ordinalOf
-ordinal-none k n h = go (leb (suc k) n) refl h
+pub ordinal_none : (k n : ℕ) → ordinal_of (pos (suc k)) n ≡ 0 → n ≤ k
+unfolding ordinal_of
+ordinal_none k n h = go (leb (suc k) n) refl h
   where
     go : (b : Bool) → leb (suc k) n ≡ b → cond b (suc k) 0 ≡ 0 → n ≤ k
     go true e h' = absurd (omega arith)

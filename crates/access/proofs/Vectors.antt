@@ -1,4 +1,4 @@
--- Laws of `privateOf`, `defaultOf` and `resolved`, in the order of the code's tests. Assumes nothing.
+-- Laws of `private_of`, `default_of` and `resolved`, in the order of the code's tests. Assumes nothing.
 use Prim.Native.Nat.{ℕ, zero, suc, ◌-◌, ◌^◌}
 use native.Mathlib.Omega.{arith}
 use mathlib.Core.Path.{◌≡◌, refl, sym, ap}
@@ -7,37 +7,37 @@ use lib.IntN.{ℤ, pos, negsuc}
 use types.Run.{OneOf}
 use denote.Enum.Declared.{tag_of}
 use borrow.Author.Tests.{lt-ltb, le-ltb}
-use Rattle.itron.specs.Limits.{maxDomains}
-use Rattle.access.specs.Domains.{ordinalOf}
-use Rattle.access.specs.Patterns.{allZeros, allOnes}
-use Rattle.access.specs.Vectors.{uniform, privateOf, defaultOf, resolved}
+use Rattle.itron.specs.Limits.{max_domains}
+use Rattle.access.specs.Domains.{ordinal_of}
+use Rattle.access.specs.Patterns.{all_zeros, all_ones}
+use Rattle.access.specs.Vectors.{uniform, private_of, default_of, resolved}
 use Rattle.access.specs.declared.vector.Choice.{Choice}
 use Rattle.access.specs.declared.vector.Choice.TheVariants.{Default, Given}
 use Rattle.access.specs.contracts.vector.Choice.{the_type}
-use Rattle.access.proofs.Ordinals.{ordinal-user, ordinal-none}
+use Rattle.access.proofs.Ordinals.{ordinal_user, ordinal_none}
 
-pub private-none : (z : ℤ) → ordinalOf z maxDomains ≡ 0 → uniform allZeros ≡ privateOf z
-unfolding privateOf
-private-none (negsuc k) h = refl
-private-none (pos zero) h = refl
-private-none (pos (suc k)) h = rw (le-ltb k maxDomains (ordinal-none k maxDomains h))
+pub private_none : (z : ℤ) → ordinal_of z max_domains ≡ 0 → uniform all_zeros ≡ private_of z
+unfolding private_of
+private_none (negsuc k) h = refl
+private_none (pos zero) h = refl
+private_none (pos (suc k)) h = rw (le-ltb k max_domains (ordinal_none k max_domains h))
 
-pub private-user : (z : ℤ) (d : ℕ) → d ≡ ordinalOf z maxDomains → (d ≡ 0 → ⊥) → uniform (2 ^ (d - 1)) ≡ privateOf z
-unfolding privateOf
-private-user z zero e h = absurd (h refl)
-private-user z (suc k) e h = let u = ordinal-user z maxDomains k (sym e) in rw (u.0, lt-ltb k maxDomains u.1) (ap (λ (i : ℕ). uniform (2 ^ i)) (omega arith))
+pub private_user : (z : ℤ) (d : ℕ) → d ≡ ordinal_of z max_domains → (d ≡ 0 → ⊥) → uniform (2 ^ (d - 1)) ≡ private_of z
+unfolding private_of
+private_user z zero e h = absurd (h refl)
+private_user z (suc k) e h = let u = ordinal_user z max_domains k (sym e) in rw (u.0, lt-ltb k max_domains u.1) (ap (λ (i : ℕ). uniform (2 ^ i)) (omega arith))
 
-pub default-shared : (z : ℤ) → z ≡ negsuc 1 → uniform allOnes ≡ defaultOf z
-default-shared z h = rw h
+pub default_shared : (z : ℤ) → z ≡ negsuc 1 → uniform all_ones ≡ default_of z
+default_shared z h = rw h
 
-pub default-other : (z : ℤ) → (z ≡ negsuc 1 → ⊥) → privateOf z ≡ defaultOf z
-unfolding privateOf
-default-other (pos k) g = refl
-default-other (negsuc zero) g = refl
-default-other (negsuc (suc zero)) g = absurd (g refl)
-default-other (negsuc (suc (suc k))) g = refl
+pub default_other : (z : ℤ) → (z ≡ negsuc 1 → ⊥) → private_of z ≡ default_of z
+unfolding private_of
+default_other (pos k) g = refl
+default_other (negsuc zero) g = refl
+default_other (negsuc (suc zero)) g = absurd (g refl)
+default_other (negsuc (suc (suc k))) g = refl
 
 -- the arm of an entry that gives no vector
-pub by_default : (z : ℤ) (v : Choice) → OneOf (0 ∷ []) (tag_of the_type v) → defaultOf z ≡ resolved z v
+pub by_default : (z : ℤ) (v : Choice) → OneOf (0 ∷ []) (tag_of the_type v) → default_of z ≡ resolved z v
 by_default z Default t = refl
 by_default z (Given v) t = absurd (omega arith)

@@ -1,7 +1,7 @@
 // The audit report: whom the patterns of a vector admit.
 ghost use Rattle.std.specs.Prelude.{◌≡◌, ◌≤◌};
-ghost use Rattle.itron.specs.Limits.{maxDomains};
-ghost use Rattle.access.specs.Audits.{admissionsOf, auditOf};
+ghost use Rattle.itron.specs.Limits.{max_domains};
+ghost use Rattle.access.specs.Audits.{admissions_of, audit_of};
 
 use crate::vector::Vector;
 use itron::code::{E_OK, E_PAR};
@@ -42,8 +42,8 @@ impl AuditReport {
 
 // The report of one pattern for n user domains: the bits above n are masked out.
 pub(crate) fn report(pattern: u32, n: usize) -> Admissions
-    requires { n ≤ maxDomains }
-    ensures { result ≡ admissionsOf pattern n }
+    requires { n ≤ max_domains }
+    ensures { result ≡ admissions_of pattern n }
 {
     // In 64 bits, since n may be 32.
     let above: u64 = 1 << n;
@@ -60,7 +60,7 @@ pub(crate) fn report(pattern: u32, n: usize) -> Admissions
 
 // The audit report of a vector for n user domains. The sign is tested before the cast.
 pub fn audit(vector: Vector, n: i32) -> AuditReport
-    ensures { result ≡ auditOf vector n }
+    ensures { result ≡ audit_of vector n }
 {
     if n < 0 {
         return AuditReport::REFUSED;

@@ -1,6 +1,6 @@
 // Domain numbers: special domains are below zero, user domains count from 1.
 ghost use Rattle.std.specs.Prelude.{◌≡◌};
-ghost use Rattle.access.specs.Domains.{ordinalOf, sameDomain, runningOf};
+ghost use Rattle.access.specs.Domains.{ordinal_of, same_domain, running_of};
 
 pub const KERNEL_DOMAIN: i32 = -1;
 
@@ -9,7 +9,7 @@ pub const NO_DOMAIN: i32 = -2;
 
 // A number from 1 to the limit, as it is; 0 of any other. The sign is tested before the cast.
 pub fn ordinal(number: i32, limit: usize) -> usize
-    ensures { result ≡ ordinalOf number limit }
+    ensures { result ≡ ordinal_of number limit }
 {
     if number < 1 {
         return 0;
@@ -23,14 +23,14 @@ pub fn ordinal(number: i32, limit: usize) -> usize
 
 // Whether two domain numbers are the same.
 pub fn is_same(domain: i32, other: i32) -> bool
-    ensures { result ≡ sameDomain domain other }
+    ensures { result ≡ same_domain domain other }
 {
     domain == other
 }
 
 // The domain as which a task of a domain runs: inside extended service calls, that is above level 0, it is the kernel's.
 pub fn running(domain: i32, level: u8) -> i32
-    ensures { result ≡ runningOf domain level }
+    ensures { result ≡ running_of domain level }
 {
     if level == 0 {
         return domain;

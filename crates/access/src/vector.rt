@@ -1,6 +1,6 @@
 // Access vectors: a pattern for each kind of operation.
 ghost use Rattle.std.specs.Prelude.{◌≡◌};
-ghost use Rattle.access.specs.Vectors.{patternOf, sameVector, privateOf, defaultOf, resolved};
+ghost use Rattle.access.specs.Vectors.{pattern_of, same_vector, private_of, default_of, resolved};
 
 use crate::domain::{NO_DOMAIN, ordinal};
 use itron::limit::MAX_DOMAINS;
@@ -40,7 +40,7 @@ impl Vector {
 
     // Private to a user domain; kernel only for a number outside 1 to 32.
     pub fn private(domain: i32) -> Vector
-        ensures { result ≡ privateOf domain }
+        ensures { result ≡ private_of domain }
     {
         let d = ordinal(domain, MAX_DOMAINS);
         if d == 0 {
@@ -57,7 +57,7 @@ impl Vector {
 
     // The vector of an entry that gives none; private already means kernel only for the kernel domain.
     pub fn default_for(domain: i32) -> Vector
-        ensures { result ≡ defaultOf domain }
+        ensures { result ≡ default_of domain }
     {
         if domain == NO_DOMAIN {
             return Vector::SHARED;
@@ -67,7 +67,7 @@ impl Vector {
 
     // Whether all four patterns are the same.
     pub fn equals(self, other: Vector) -> bool
-        ensures { result ≡ sameVector self other }
+        ensures { result ≡ same_vector self other }
     {
         (self.normal1 == other.normal1)
             & (self.normal2 == other.normal2)
@@ -76,7 +76,7 @@ impl Vector {
     }
 
     pub fn pattern(self, operation: Operation) -> u32
-        ensures { result ≡ patternOf self operation }
+        ensures { result ≡ pattern_of self operation }
     {
         match operation {
             Operation::Normal1 => self.normal1,

@@ -18,9 +18,9 @@ module _ {A : Type 0} where
       (set_at (take i r) (get_or o i d) (drop (suc i) o) (get_or r i d) i (length-take-le i r (omega arith)))
 
   -- from i on the entries are still those of o
-  pub fill-ahead : (r o : List A) (i j : ℕ) (d : A) → i ≤ length r → i ≤ length o → i ≤ j → get_or (filled r o i) j d ≡ get_or o j d
-  fill-ahead r o zero j d h k l = refl
-  fill-ahead [] o (suc i) j d h k l = absurd (omega arith)
-  fill-ahead (x ∷ r) [] (suc i) j d h k l = absurd (omega arith)
-  fill-ahead (x ∷ r) (y ∷ o) (suc i) zero d h k l = absurd (omega arith)
-  fill-ahead (x ∷ r) (y ∷ o) (suc i) (suc j) d h k l = fill-ahead r o i j d (omega arith) (omega arith) (omega arith)
+  pub fill_ahead : (r o : List A) (i j : ℕ) (d : A) → i ≤ length r → i ≤ length o → i ≤ j → get_or (filled r o i) j d ≡ get_or o j d
+  fill_ahead r o zero j d h k l = refl
+  fill_ahead [] o (suc i) j d h k l = absurd (omega arith)
+  fill_ahead (x ∷ r) [] (suc i) j d h k l = absurd (omega arith)
+  fill_ahead (x ∷ r) (y ∷ o) (suc i) zero d h k l = absurd (omega arith)
+  fill_ahead (x ∷ r) (y ∷ o) (suc i) (suc j) d h k l = fill_ahead r o i j d (omega arith) (omega arith) (omega arith)

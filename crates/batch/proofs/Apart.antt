@@ -5,83 +5,83 @@ use mathlib.Core.Bool.{false, cond}
 use mathlib.Core.List.{List}
 use lib.Dec.{eqb}
 use lib.ListN.{get_or}
-use Rattle.itron.specs.Codes.{Code, ok, waiting, error, eSys, eRsatr, ePar, eId, eCtx, eMacv, eOacv, eIluse, eNomem, eNoid, eObj, eNoexs, eQovr, eTmout}
-use Rattle.model.specs.Answers.{Answer, outcomeOf, replyOf}
+use Rattle.itron.specs.Codes.{Code, ok, waiting, error, e_sys, e_rsatr, e_par, e_id, e_ctx, e_macv, e_oacv, e_iluse, e_nomem, e_noid, e_obj, e_noexs, e_qovr, e_tmout}
+use Rattle.model.specs.Answers.{Answer, outcome_of, reply_of}
 use Rattle.model.proofs.Lists.{ne_of}
-use Rattle.batch.specs.Encoding.{outcomeWord, encoded, noCall}
+use Rattle.batch.specs.Encoding.{outcome_word, encoded, no_call}
 
 -- the code that a word stands for; 2^32 less a refusal's size
-abbrev codeFrom : ℕ → Code
-codeFrom n =
+abbrev code_from : ℕ → Code
+code_from n =
     cond (eqb n 0) ok
     (cond (eqb n 1) waiting
-    (cond (eqb n 4294967291) (error eSys)
-    (cond (eqb n 4294967285) (error eRsatr)
-    (cond (eqb n 4294967279) (error ePar)
-    (cond (eqb n 4294967278) (error eId)
-    (cond (eqb n 4294967271) (error eCtx)
-    (cond (eqb n 4294967270) (error eMacv)
-    (cond (eqb n 4294967269) (error eOacv)
-    (cond (eqb n 4294967268) (error eIluse)
-    (cond (eqb n 4294967263) (error eNomem)
-    (cond (eqb n 4294967262) (error eNoid)
-    (cond (eqb n 4294967255) (error eObj)
-    (cond (eqb n 4294967254) (error eNoexs)
-    (cond (eqb n 4294967253) (error eQovr)
-    (error eTmout)))))))))))))))
+    (cond (eqb n 4294967291) (error e_sys)
+    (cond (eqb n 4294967285) (error e_rsatr)
+    (cond (eqb n 4294967279) (error e_par)
+    (cond (eqb n 4294967278) (error e_id)
+    (cond (eqb n 4294967271) (error e_ctx)
+    (cond (eqb n 4294967270) (error e_macv)
+    (cond (eqb n 4294967269) (error e_oacv)
+    (cond (eqb n 4294967268) (error e_iluse)
+    (cond (eqb n 4294967263) (error e_nomem)
+    (cond (eqb n 4294967262) (error e_noid)
+    (cond (eqb n 4294967255) (error e_obj)
+    (cond (eqb n 4294967254) (error e_noexs)
+    (cond (eqb n 4294967253) (error e_qovr)
+    (error e_tmout)))))))))))))))
 
-code-from : (c : Code) → codeFrom (outcomeWord (outcomeOf c)) ≡ c
-code-from ok = refl
-code-from waiting = refl
-code-from (error eSys) = refl
-code-from (error eRsatr) = refl
-code-from (error ePar) = refl
-code-from (error eId) = refl
-code-from (error eCtx) = refl
-code-from (error eMacv) = refl
-code-from (error eOacv) = refl
-code-from (error eIluse) = refl
-code-from (error eNomem) = refl
-code-from (error eNoid) = refl
-code-from (error eObj) = refl
-code-from (error eNoexs) = refl
-code-from (error eQovr) = refl
-code-from (error eTmout) = refl
+code_from_lem : (c : Code) → code_from (outcome_word (outcome_of c)) ≡ c
+code_from_lem ok = refl
+code_from_lem waiting = refl
+code_from_lem (error e_sys) = refl
+code_from_lem (error e_rsatr) = refl
+code_from_lem (error e_par) = refl
+code_from_lem (error e_id) = refl
+code_from_lem (error e_ctx) = refl
+code_from_lem (error e_macv) = refl
+code_from_lem (error e_oacv) = refl
+code_from_lem (error e_iluse) = refl
+code_from_lem (error e_nomem) = refl
+code_from_lem (error e_noid) = refl
+code_from_lem (error e_obj) = refl
+code_from_lem (error e_noexs) = refl
+code_from_lem (error e_qovr) = refl
+code_from_lem (error e_tmout) = refl
 
 -- no code is written as E_RSFN
-no_code : (c : Code) → eqb (outcomeWord (outcomeOf c)) (get_or noCall 0 0) ≡ false
+no_code : (c : Code) → eqb (outcome_word (outcome_of c)) (get_or no_call 0 0) ≡ false
 no_code ok = refl
 no_code waiting = refl
-no_code (error eSys) = refl
-no_code (error eRsatr) = refl
-no_code (error ePar) = refl
-no_code (error eId) = refl
-no_code (error eCtx) = refl
-no_code (error eMacv) = refl
-no_code (error eOacv) = refl
-no_code (error eIluse) = refl
-no_code (error eNomem) = refl
-no_code (error eNoid) = refl
-no_code (error eObj) = refl
-no_code (error eNoexs) = refl
-no_code (error eQovr) = refl
-no_code (error eTmout) = refl
+no_code (error e_sys) = refl
+no_code (error e_rsatr) = refl
+no_code (error e_par) = refl
+no_code (error e_id) = refl
+no_code (error e_ctx) = refl
+no_code (error e_macv) = refl
+no_code (error e_oacv) = refl
+no_code (error e_iluse) = refl
+no_code (error e_nomem) = refl
+no_code (error e_noid) = refl
+no_code (error e_obj) = refl
+no_code (error e_noexs) = refl
+no_code (error e_qovr) = refl
+no_code (error e_tmout) = refl
 
 -- what an answer says
 pub record Alike (a b : Answer) : Type 0 where
   pub code : a.code ≡ b.code
-  pub reply : replyOf a ≡ replyOf b
+  pub reply : reply_of a ≡ reply_of b
   pub info : a.info ≡ b.info
 
-pub told-apart : (a b : Answer) → encoded a ≡ encoded b → Alike a b
-told-apart a b e =
+pub told_apart : (a b : Answer) → encoded a ≡ encoded b → Alike a b
+told_apart a b e =
     let w : (k : ℕ) → get_or (encoded a) k 0 ≡ get_or (encoded b) k 0 = λ k. ap (λ (l : List ℕ). get_or l k 0) e in
-    let c : a.code ≡ b.code = sym (code-from a.code) ∙ ap codeFrom (w 0) ∙ code-from b.code in
+    let c : a.code ≡ b.code = sym (code_from_lem a.code) ∙ ap code_from (w 0) ∙ code_from_lem b.code in
     record {
       code = c;
-      reply = λ i. record { outcome = outcomeOf (c i); word = w 1 i; released = record { task = w 2 i; word = w 3 i } };
+      reply = λ i. record { outcome = outcome_of (c i); word = w 1 i; released = record { task = w 2 i; word = w 3 i } };
       info = λ i. record { first = w 4 i; second = w 5 i; amount = w 6 i; vector = record { normal1 = w 7 i; normal2 = w 8 i; management = w 9 i; reference = w 10 i } };
     }
 
-pub no_answer : (a : Answer) → encoded a ≡ noCall → ⊥
-no_answer a e = ne_of (outcomeWord (outcomeOf a.code)) (get_or noCall 0 0) (no_code a.code) (ap (λ (l : List ℕ). get_or l 0 0) e)
+pub no_answer : (a : Answer) → encoded a ≡ no_call → ⊥
+no_answer a e = ne_of (outcome_word (outcome_of a.code)) (get_or no_call 0 0) (no_code a.code) (ap (λ (l : List ℕ). get_or l 0 0) e)

@@ -10,7 +10,7 @@ use types.Run.{OneOf}
 use denote.Enum.Declared.{tag_of}
 use mir.Syntax.{w32}
 use mir.Val.{of_z, to_z}
-use Rattle.itron.specs.Limits.{maxTasks}
+use Rattle.itron.specs.Limits.{max_tasks}
 use Rattle.model.specs.Calls.{Call}
 use Rattle.model.proofs.Bounds.{small}
 use Rattle.kernel.specs.declared.state.State.{State}
@@ -24,13 +24,13 @@ use Rattle.batch.specs.declared.asked.Asked.{Asked}
 use Rattle.batch.specs.declared.asked.Asked.TheVariants as Asks
 use Rattle.batch.specs.contracts.asked.Asked.{the_type as asked-type}
 use Rattle.batch.specs.Encoding.{meanings, nth, item_of}
-use Rattle.batch.specs.Made.{answerMade, Performs}
+use Rattle.batch.specs.Made.{answer_made, Performs}
 
 -- ---- the numbers of an answer fit a word
-pub answer-small : {s : State} → Valid s → {c : Call} {a : Answer} → Does s c a → (a.released.task ≤ maxTasks) × (a.info.first ≤ maxTasks) × (a.info.second ≤ maxTasks)
-answer-small {s} v {c} d =
+pub answer_small : {s : State} → Valid s → {c : Call} {a : Answer} → Does s c a → (a.released.task ≤ max_tasks) × (a.info.first ≤ max_tasks) × (a.info.second ≤ max_tasks)
+answer_small {s} v {c} d =
     let b = small (view_of s) v.sound.fit c in
-    subst (λ (x : Answer). (x.released.task ≤ maxTasks) × (x.info.first ≤ maxTasks) × (x.info.second ≤ maxTasks)) (sym d.same) (b.released, b.first, b.second)
+    subst (λ (x : Answer). (x.released.task ≤ max_tasks) × (x.info.first ≤ max_tasks) × (x.info.second ≤ max_tasks)) (sym d.same) (b.released, b.first, b.second)
 
 -- ---- numbers as they are read back from their words
 abbrev pub reread : Numbers → Numbers
@@ -59,19 +59,19 @@ beyond [] (suc n) h = refl
 beyond (x ∷ l) (suc zero) h = absurd (omega arith)
 beyond (x ∷ l) (suc (suc n)) h = beyond l (suc n) (omega arith)
 
-pub meant-nothing : (q : Numbers) → Unlike (length (meanings q)) q.function → none ≡ item_of q
-meant-nothing q u = ⊎_elim (λ e. ap (nth (meanings q)) (sym e)) (λ l. sym (beyond (meanings q) q.function l)) (outside (length (meanings q)) q.function u)
+pub meant_nothing : (q : Numbers) → Unlike (length (meanings q)) q.function → none ≡ item_of q
+meant_nothing q u = ⊎_elim (λ e. ap (nth (meanings q)) (sym e)) (λ l. sym (beyond (meanings q) q.function l)) (outside (length (meanings q)) q.function u)
 
-pub is-nothing : (x : Asked) → OneOf (0 ∷ []) (tag_of asked-type x) → x ≡ Asks.Nothing
-is-nothing Asks.Nothing t = refl
-is-nothing (Asks.Call q) t = absurd (omega arith)
+pub is_nothing : (x : Asked) → OneOf (0 ∷ []) (tag_of asked-type x) → x ≡ Asks.Nothing
+is_nothing Asks.Nothing t = refl
+is_nothing (Asks.Call q) t = absurd (omega arith)
 
 -- ---- an answer's words, and the state after it
-pub does : {s : State} {c : Call} {a : Answer} {r : Made} → Does s c a → r ≡ answerMade a → Performs s (some c) r
+pub does : {s : State} {c : Call} {a : Answer} {r : Made} → Does s c a → r ≡ answer_made a → Performs s (some c) r
 does {s} {a} {r} d e =
     let t : r.state ≡ a.state = ap (λ (x : Made). x.state) e in
     record {
-      answer = ap (λ (x : Made). x.words) e ∙ ap (λ (x : Answer). (answerMade x).words) d.same;
+      answer = ap (λ (x : Made). x.words) e ∙ ap (λ (x : Answer). (answer_made x).words) d.same;
       seen = ap view_of t ∙ d.seen;
       valid = subst (λ (x : State). Valid x) (sym t) d.valid;
     }

@@ -3,12 +3,12 @@ use Rattle.std.specs.Prelude.{ℕ, zero, suc, ◌+◌, ◌-◌, ◌*◌, ◌/◌
 use Rattle.std.proofs.Math.Option.{Option, none, some}
 use Rattle.std.specs.Int.{w32}
 use Rattle.std.proofs.Common.{to_z, of_z}
-use Rattle.model.specs.Answers.{Answer, outcomeOf, releasedOf}
-use Rattle.model.specs.Acts.{own, refer, setVector}
+use Rattle.model.specs.Answers.{Answer, outcome_of, released_of}
+use Rattle.model.specs.Acts.{own, refer, set_vector}
 use Rattle.model.specs.declared.sem.SemaphoreCall.TheVariants.{Signal as signal, Acquire as acquire}
 use Rattle.model.specs.declared.dtq.QueueCall.TheVariants.{Send as send, Receive as receive, ForcedSend as forcedSend}
 use Rattle.model.specs.declared.svc.ExtendedCall.TheVariants.{Enter, Leave}
-use Rattle.model.specs.Calls.{Call, call, onSemaphore, onQueue, onLevel}
+use Rattle.model.specs.Calls.{Call, call, on_semaphore, on_queue, on_level}
 use Rattle.model.specs.History.{History}
 use Rattle.model.specs.declared.Outcome.{Outcome}
 use Rattle.model.specs.declared.Outcome.TheVariants.{Code, Waiting}
@@ -19,8 +19,8 @@ use Rattle.batch.specs.declared.numbers.Numbers.{Numbers}
 abbrev pub call_words : ℕ
 call_words = 8
 
-abbrev pub numbersAt : List ℕ → ℕ → Numbers
-numbersAt ws at =
+abbrev pub numbers_at : List ℕ → ℕ → Numbers
+numbers_at ws at =
     record {
       function = get_or ws at 0;
       caller = to_z w32 (get_or ws (at + 1) 0);
@@ -32,20 +32,20 @@ numbersAt ws at =
 -- what numbers can mean, in document 01's order of the calls; then what requests added
 abbrev pub meanings : Numbers → List Call
 meanings q =
-    call q.caller (onSemaphore q.object (own signal))
-    ∷ call q.caller (onSemaphore q.object (own (acquire Polling)))
-    ∷ call q.caller (onSemaphore q.object (own (acquire Forever)))
-    ∷ call q.caller (onSemaphore q.object refer)
-    ∷ call q.caller (onSemaphore q.object (setVector q.vector))
-    ∷ call q.caller (onQueue q.object (own (send Polling q.word)))
-    ∷ call q.caller (onQueue q.object (own (send Forever q.word)))
-    ∷ call q.caller (onQueue q.object (own (receive Polling)))
-    ∷ call q.caller (onQueue q.object (own (receive Forever)))
-    ∷ call q.caller (onQueue q.object refer)
-    ∷ call q.caller (onQueue q.object (setVector q.vector))
-    ∷ call q.caller (onQueue q.object (own (forcedSend q.word)))
-    ∷ call q.caller (onLevel Enter)
-    ∷ call q.caller (onLevel Leave)
+    call q.caller (on_semaphore q.object (own signal))
+    ∷ call q.caller (on_semaphore q.object (own (acquire Polling)))
+    ∷ call q.caller (on_semaphore q.object (own (acquire Forever)))
+    ∷ call q.caller (on_semaphore q.object refer)
+    ∷ call q.caller (on_semaphore q.object (set_vector q.vector))
+    ∷ call q.caller (on_queue q.object (own (send Polling q.word)))
+    ∷ call q.caller (on_queue q.object (own (send Forever q.word)))
+    ∷ call q.caller (on_queue q.object (own (receive Polling)))
+    ∷ call q.caller (on_queue q.object (own (receive Forever)))
+    ∷ call q.caller (on_queue q.object refer)
+    ∷ call q.caller (on_queue q.object (set_vector q.vector))
+    ∷ call q.caller (on_queue q.object (own (forcedSend q.word)))
+    ∷ call q.caller (on_level Enter)
+    ∷ call q.caller (on_level Leave)
     ∷ []
 
 -- the n-th of a list, counted from 1
@@ -61,7 +61,7 @@ item_of q = nth (meanings q) q.function
 
 -- the k-th item of a slice, counted from 0: its words are the eight from k * 8 on; fewer than eight are no call
 abbrev pub item_at : List ℕ → ℕ → Option Call
-item_at ws k = cond (leb (k * call_words + call_words) (length ws)) (item_of (numbersAt ws (k * call_words))) none
+item_at ws k = cond (leb (k * call_words + call_words) (length ws)) (item_of (numbers_at ws (k * call_words))) none
 
 -- the first n items, THE NEWEST FIRST as in a history
 abbrev pub items_in : List ℕ → ℕ → List (Option Call)
@@ -69,26 +69,26 @@ items_in ws zero = []
 items_in ws (suc k) = item_at ws k ∷ items_in ws k
 
 -- the calls among them
-abbrev pub callsIn : List (Option Call) → List Call
-callsIn [] = []
-callsIn (none ∷ l) = callsIn l
-callsIn (some c ∷ l) = c ∷ callsIn l
+abbrev pub calls_in : List (Option Call) → List Call
+calls_in [] = []
+calls_in (none ∷ l) = calls_in l
+calls_in (some c ∷ l) = c ∷ calls_in l
 
 -- ---- an answer is eleven words: code, word, released task and its word; what a refer tells: first, second, amount, four patterns
-abbrev pub answerWords : ℕ
-answerWords = 11
+abbrev pub answer_words : ℕ
+answer_words = 11
 
 -- "waiting" has no number in document 01; here it is 1, which is no code's
-abbrev pub outcomeWord : Outcome → ℕ
-outcomeWord (Code z) = of_z w32 z
-outcomeWord Waiting = 1
+abbrev pub outcome_word : Outcome → ℕ
+outcome_word (Code z) = of_z w32 z
+outcome_word Waiting = 1
 
 abbrev pub encoded : Answer → List ℕ
 encoded a =
-    outcomeWord (outcomeOf a.code)
+    outcome_word (outcome_of a.code)
     ∷ a.word
-    ∷ (releasedOf a.released).task
-    ∷ (releasedOf a.released).word
+    ∷ (released_of a.released).task
+    ∷ (released_of a.released).word
     ∷ a.info.first
     ∷ a.info.second
     ∷ a.info.amount
@@ -99,19 +99,19 @@ encoded a =
     ∷ []
 
 -- E_RSFN of μITRON4.0, a code of its own: what is no call is refused by it
-abbrev pub eRsfn : ℤ
-eRsfn = negsuc 9
+abbrev pub e_rsfn : ℤ
+e_rsfn = negsuc 9
 
-abbrev pub noCall : List ℕ
-noCall = of_z w32 eRsfn ∷ 0 ∷ 0 ∷ 0 ∷ 0 ∷ 0 ∷ 0 ∷ 0 ∷ 0 ∷ 0 ∷ 0 ∷ []
+abbrev pub no_call : List ℕ
+no_call = of_z w32 e_rsfn ∷ 0 ∷ 0 ∷ 0 ∷ 0 ∷ 0 ∷ 0 ∷ 0 ∷ 0 ∷ 0 ∷ 0 ∷ []
 
 -- the words of the answers to items, in the order in which they were made: a call's are those of its event's answer in the
 -- history of the calls among them
-abbrev pub answersIn : List (Option Call) → History → List ℕ
-answersIn [] h = []
-answersIn (none ∷ l) h = answersIn l h ++ noCall
-answersIn (some c ∷ l) [] = []
-answersIn (some c ∷ l) (e ∷ h) = answersIn l h ++ encoded e.answer
+abbrev pub answers_in : List (Option Call) → History → List ℕ
+answers_in [] h = []
+answers_in (none ∷ l) h = answers_in l h ++ no_call
+answers_in (some c ∷ l) [] = []
+answers_in (some c ∷ l) (e ∷ h) = answers_in l h ++ encoded e.answer
 
 -- ---- how many are answered: all that the slice holds (what is left behind the last eight words counts as one), as far as
 -- their answers have room
@@ -119,4 +119,4 @@ abbrev pub groups : ℕ → ℕ
 groups n = (n + (call_words - 1)) / call_words
 
 abbrev pub answerable : ℕ → ℕ → ℕ
-answerable calls answers = cond (ltb (answers / answerWords) (groups calls)) (answers / answerWords) (groups calls)
+answerable calls answers = cond (ltb (answers / answer_words) (groups calls)) (answers / answer_words) (groups calls)

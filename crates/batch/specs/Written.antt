@@ -4,13 +4,13 @@ use Rattle.std.specs.Int.{w32}
 use Rattle.std.proofs.Common.{of_z, to_z}
 use Rattle.itron.specs.Codes.{Code, ok, waiting, error, number_of}
 use Rattle.model.specs.State.{Vector}
-use Rattle.model.specs.Answers.{Answer, releasedOf}
-use Rattle.model.specs.Acts.{own, refer, setVector}
+use Rattle.model.specs.Answers.{Answer, released_of}
+use Rattle.model.specs.Acts.{own, refer, set_vector}
 use Rattle.model.specs.declared.sem.SemaphoreCall.TheVariants.{Signal as signal, Acquire as acquire}
 use Rattle.model.specs.declared.dtq.QueueCall.TheVariants.{Send as send, Receive as receive, ForcedSend as forcedSend}
 use Rattle.model.specs.declared.Patience.TheVariants.{Polling, Forever}
 use Rattle.model.specs.declared.svc.ExtendedCall.TheVariants.{Enter, Leave}
-use Rattle.model.specs.Calls.{Op, Call, onSemaphore, onQueue, onLevel}
+use Rattle.model.specs.Calls.{Op, Call, on_semaphore, on_queue, on_level}
 use Rattle.batch.specs.declared.numbers.Numbers.{Numbers}
 
 -- ---- a call's numbers: function, caller, object, word, vector
@@ -20,24 +20,24 @@ row f t n w v = record { function = f; caller = t; object = n; word = w; vector 
 -- where a call has no object, any number n may stand, where it has no word, any word w, and where it has no vector, any vector v: they say nothing
 module _ (n : ℤ) (w : ℕ) (v : Vector) where
   -- a function for each call, in document 01's order; then what requests added
-  abbrev pub numbersBy : ℤ → Op → Numbers
-  numbersBy t (onSemaphore i (own signal)) = row 1 t i w v
-  numbersBy t (onSemaphore i (own (acquire Polling))) = row 2 t i w v
-  numbersBy t (onSemaphore i (own (acquire Forever))) = row 3 t i w v
-  numbersBy t (onSemaphore i refer) = row 4 t i w v
-  numbersBy t (onSemaphore i (setVector x)) = row 5 t i w x
-  numbersBy t (onQueue i (own (send Polling x))) = row 6 t i x v
-  numbersBy t (onQueue i (own (send Forever x))) = row 7 t i x v
-  numbersBy t (onQueue i (own (receive Polling))) = row 8 t i w v
-  numbersBy t (onQueue i (own (receive Forever))) = row 9 t i w v
-  numbersBy t (onQueue i refer) = row 10 t i w v
-  numbersBy t (onQueue i (setVector x)) = row 11 t i w x
-  numbersBy t (onQueue i (own (forcedSend x))) = row 12 t i x v
-  numbersBy t (onLevel Enter) = row 13 t n w v
-  numbersBy t (onLevel Leave) = row 14 t n w v
+  abbrev pub numbers_by : ℤ → Op → Numbers
+  numbers_by t (on_semaphore i (own signal)) = row 1 t i w v
+  numbers_by t (on_semaphore i (own (acquire Polling))) = row 2 t i w v
+  numbers_by t (on_semaphore i (own (acquire Forever))) = row 3 t i w v
+  numbers_by t (on_semaphore i refer) = row 4 t i w v
+  numbers_by t (on_semaphore i (set_vector x)) = row 5 t i w x
+  numbers_by t (on_queue i (own (send Polling x))) = row 6 t i x v
+  numbers_by t (on_queue i (own (send Forever x))) = row 7 t i x v
+  numbers_by t (on_queue i (own (receive Polling))) = row 8 t i w v
+  numbers_by t (on_queue i (own (receive Forever))) = row 9 t i w v
+  numbers_by t (on_queue i refer) = row 10 t i w v
+  numbers_by t (on_queue i (set_vector x)) = row 11 t i w x
+  numbers_by t (on_queue i (own (forcedSend x))) = row 12 t i x v
+  numbers_by t (on_level Enter) = row 13 t n w v
+  numbers_by t (on_level Leave) = row 14 t n w v
 
-  abbrev pub numbersOf : Call → Numbers
-  numbersOf c = numbersBy c.caller c.op
+  abbrev pub numbers_of : Call → Numbers
+  numbers_of c = numbers_by c.caller c.op
 
 -- ---- their eight words; signed numbers are in two's complement
 abbrev pub words_of : Numbers → List ℕ
@@ -76,8 +76,8 @@ pub record Says (ws : List ℕ) (a : Answer) : Type 0 where
   pub long : length ws ≡ 11
   pub code : CodeSaid a.code (get_or ws 0 0)
   pub word : get_or ws 1 0 ≡ a.word
-  pub releasedTask : get_or ws 2 0 ≡ (releasedOf a.released).task
-  pub releasedWord : get_or ws 3 0 ≡ (releasedOf a.released).word
+  pub released_task : get_or ws 2 0 ≡ (released_of a.released).task
+  pub released_word : get_or ws 3 0 ≡ (released_of a.released).word
   pub first : get_or ws 4 0 ≡ a.info.first
   pub second : get_or ws 5 0 ≡ a.info.second
   pub amount : get_or ws 6 0 ≡ a.info.amount

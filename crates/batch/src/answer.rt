@@ -1,8 +1,8 @@
 // The words of an answer.
 ghost use Rattle.std.specs.Prelude.{◌≡◌, ◌≤◌};
-ghost use Rattle.itron.specs.Limits.{maxTasks};
-ghost use Rattle.batch.specs.Encoding.{outcomeWord, noCall};
-ghost use Rattle.batch.specs.Made.{answerMade};
+ghost use Rattle.itron.specs.Limits.{max_tasks};
+ghost use Rattle.batch.specs.Encoding.{outcome_word, no_call};
+ghost use Rattle.batch.specs.Made.{answer_made};
 
 use crate::word::unsigned;
 use kernel::state::{Answer, State};
@@ -26,7 +26,7 @@ pub struct Made {
 }
 
 pub(crate) fn outcome_word(outcome: Outcome) -> u32
-    ensures { result ≡ outcomeWord outcome }
+    ensures { result ≡ outcome_word outcome }
 {
     match outcome {
         Outcome::Code(code) => unsigned(code),
@@ -36,7 +36,7 @@ pub(crate) fn outcome_word(outcome: Outcome) -> u32
 
 // The words of what is no call.
 pub(crate) fn no_call() -> [u32; ANSWER_WORDS]
-    ensures { result ≡ noCall }
+    ensures { result ≡ no_call }
 {
     let mut words = [0; ANSWER_WORDS];
     words[0] = unsigned(E_RSFN);
@@ -45,8 +45,8 @@ pub(crate) fn no_call() -> [u32; ANSWER_WORDS]
 
 // What a call answered.
 pub(crate) fn answered(answer: Answer) -> Made
-    requires { (answer.released.task ≤ maxTasks) × (answer.info.first ≤ maxTasks) × (answer.info.second ≤ maxTasks) }
-    ensures { result ≡ answerMade answer }
+    requires { (answer.released.task ≤ max_tasks) × (answer.info.first ≤ max_tasks) × (answer.info.second ≤ max_tasks) }
+    ensures { result ≡ answer_made answer }
 {
     let outcome = answer.outcome;
     let released = answer.released;

@@ -3,7 +3,7 @@ ghost use Rattle.std.specs.Prelude.{◌≡◌};
 ghost use Rattle.batch.specs.Encoding.{item_of};
 ghost use Rattle.model.specs.declared.Request.TheVariants.{Semaphore, Queue, Extended};
 ghost use Rattle.batch.specs.declared.asked.Asked.TheVariants.{Call};
-ghost use Rattle.batch.specs.Made.{meaningOf};
+ghost use Rattle.batch.specs.Made.{meaning_of};
 
 use crate::numbers::Numbers;
 use model::dtq::{QueueCall, QueueRequest};
@@ -67,7 +67,7 @@ fn of_level(asked: ExtendedCall) -> Asked
 
 // One line for each function.
 pub(crate) fn request_of(numbers: Numbers) -> Asked
-    ensures { meaningOf numbers.caller result ≡ item_of numbers }
+    ensures { meaning_of numbers.caller result ≡ item_of numbers }
 {
     let object = numbers.object;
     let word = numbers.word;

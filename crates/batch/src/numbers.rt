@@ -1,6 +1,6 @@
 // What the words of a call say.
 ghost use Rattle.std.specs.Prelude.{◌≡◌, ◌+◌, ◌≤◌, length};
-ghost use Rattle.batch.specs.Encoding.{call_words, numbersAt};
+ghost use Rattle.batch.specs.Encoding.{call_words, numbers_at};
 
 use crate::word::signed;
 use access::vector::Vector;
@@ -21,7 +21,7 @@ pub struct Numbers {
 // The call whose words start at a place.
 pub(crate) fn read(calls: &[u32], at: usize) -> Numbers
     requires { at + call_words ≤ length calls.now }
-    ensures { result ≡ numbersAt calls.now at }
+    ensures { result ≡ numbers_at calls.now at }
 {
     Numbers {
         function: calls[at],

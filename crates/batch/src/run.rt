@@ -2,7 +2,7 @@
 ghost use Rattle.std.specs.Prelude.{◌≡◌, ◌+◌, ◌≤◌, ◌<◌, length};
 ghost use Rattle.std.proofs.Math.Seq.{paste};
 ghost use Rattle.kernel.specs.Valid.{Valid};
-ghost use Rattle.batch.specs.Encoding.{answerWords, groups, answerable, item_at};
+ghost use Rattle.batch.specs.Encoding.{answer_words, groups, answerable, item_at};
 ghost use Rattle.batch.specs.Made.{Performs};
 ghost use Rattle.batch.specs.Runs.{Runs};
 
@@ -52,8 +52,8 @@ pub(crate) fn step(state: State, calls: &[u32], k: usize) -> Made
 
 // An answer's words go into a slice from a place on.
 pub(crate) fn write(answers: &mut [u32], at: usize, words: [u32; ANSWER_WORDS])
-    requires { at + answerWords ≤ length answers.old }
-    ensures { answers.new ≡ paste answers.old at words answerWords }
+    requires { at + answer_words ≤ length answers.old }
+    ensures { answers.new ≡ paste answers.old at words answer_words }
 {
     let mut j: usize = 0;
     while j < ANSWER_WORDS {

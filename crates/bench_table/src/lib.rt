@@ -4,7 +4,7 @@ ghost use Rattle.access.specs.declared.vector.Choice.TheVariants as Choices;
 ghost use Rattle.model.specs.Table.{fresh};
 ghost use Rattle.kernel.specs.View.{view_of};
 ghost use Rattle.kernel.specs.Valid.{Valid};
-ghost use Rattle.laws.specs.Starred.{vector, unit, entries, enterAll, bench};
+ghost use Rattle.laws.specs.Starred.{vector, unit, entries, enter_all, bench};
 
 use access::domain::KERNEL_DOMAIN;
 use access::vector::{Choice, Vector};
@@ -31,7 +31,7 @@ pub fn given(normal1: u32, normal2: u32, management: u32, reference: u32) -> Cho
 
 // Tasks 1 and 4 in domain 1, task 2 in domain 2, task 3 in the kernel, all of one priority.
 fn tasks() -> State
-    ensures { Valid result × (view_of result ≡ enterAll (fresh (pos 2) unit).state (take 4 entries)) }
+    ensures { Valid result × (view_of result ≡ enter_all (fresh (pos 2) unit).state (take 4 entries)) }
 {
     let mut s = State::fresh(2, UNIT).state;
     s = s.add_task(1, 1).state;
@@ -43,7 +43,7 @@ fn tasks() -> State
 // Semaphore 1, data queues 1 and 2.
 fn objects(mut s: State) -> State
     requires { Valid s }
-    ensures { Valid result × (view_of result ≡ enterAll (view_of s) (take 3 (drop 4 entries))) }
+    ensures { Valid result × (view_of result ≡ enter_all (view_of s) (take 3 (drop 4 entries))) }
 {
     s = s
         .add_semaphore(SemaphoreEntry {
@@ -74,7 +74,7 @@ fn objects(mut s: State) -> State
 // Regions 1 and 2.
 fn areas(mut s: State) -> State
     requires { Valid s }
-    ensures { Valid result × (view_of result ≡ enterAll (view_of s) (drop 7 entries)) }
+    ensures { Valid result × (view_of result ≡ enter_all (view_of s) (drop 7 entries)) }
 {
     s = s
         .add_region(RegionEntry {

@@ -1,6 +1,6 @@
 // A line of input while its bytes come in.
 ghost use Rattle.std.specs.Prelude.{◌≡◌, ◌≤◌, drop};
-ghost use Rattle.command.specs.Lines.{lineSize, pushed as pushedTo, gatheredOf, withoutCr};
+ghost use Rattle.command.specs.Lines.{line_size, pushed as pushedTo, gathered_of, without_cr};
 
 // One more than the longest line that is read: a full array is a line that is too long.
 pub const SIZE: usize = 256;
@@ -46,8 +46,8 @@ impl Line {
 
     // The line without the CR that stands before its LF.
     pub fn without_cr(mut self) -> Line
-        requires { self.count ≤ lineSize }
-        ensures { (result ≡ withoutCr self) × (result.count ≤ lineSize) }
+        requires { self.count ≤ line_size }
+        ensures { (result ≡ without_cr self) × (result.count ≤ line_size) }
     {
         let count = self.count;
         if count == 0 {
@@ -64,7 +64,7 @@ impl Line {
 
     // Takes bytes of a block from a place on, to the line's LF or the block's end.
     pub fn gathered(self, block: &[u8], from: usize) -> Gathered
-        ensures { result ≡ gatheredOf self from (drop from block.now) }
+        ensures { result ≡ gathered_of self from (drop from block.now) }
     {
         let mut line = self;
         let mut at = from;

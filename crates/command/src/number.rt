@@ -1,6 +1,6 @@
 // Numbers as the lines write them: decimal with an optional `-`, or `0x` and hexadecimal digits of either case.
 ghost use Rattle.std.specs.Prelude.{◌≡◌, ◌≤◌, drop, get_or};
-ghost use Rattle.command.specs.Numbers.{digitOf, areDigits, tooLarge, magnitudeOf, plain_of, minusOf, number_of, signed_of, unsignedOf, negated, signedEnd};
+ghost use Rattle.command.specs.Numbers.{digit_of, are_digits, too_large, magnitude_of, plain_of, minus_of, number_of, signed_of, unsigned_of, negated, signed_end};
 
 // The value of no digit.
 const NO_DIGIT: u8 = 16;
@@ -71,7 +71,7 @@ fn rest(text: &[u8], at: usize) -> &[u8]
 }
 
 fn digit(byte: u8) -> u8
-    ensures { result ≡ digitOf byte }
+    ensures { result ≡ digit_of byte }
 {
     if byte < b'0' {
         return NO_DIGIT;
@@ -95,7 +95,7 @@ fn digit(byte: u8) -> u8
 }
 
 fn are_digits(text: &[u8], base: u8) -> bool
-    ensures { result ≡ areDigits base text.now }
+    ensures { result ≡ are_digits base text.now }
 {
     let mut i = 0;
     while i < text.len() {
@@ -109,7 +109,7 @@ fn are_digits(text: &[u8], base: u8) -> bool
 
 // What a row is whose first digits are too large already: the others need only be digits.
 fn too_large(text: &[u8], base: u8) -> Magnitude
-    ensures { result ≡ tooLarge base text.now }
+    ensures { result ≡ too_large base text.now }
 {
     if are_digits(text, base) {
         return Magnitude::OutOfRange;
@@ -118,7 +118,7 @@ fn too_large(text: &[u8], base: u8) -> Magnitude
 }
 
 pub fn read_digits(text: &[u8], base: u8) -> Magnitude
-    ensures { result ≡ magnitudeOf base text.now }
+    ensures { result ≡ magnitude_of base text.now }
 {
     if text.len() == 0 {
         return Magnitude::NoNumber;
@@ -150,7 +150,7 @@ fn plain(magnitude: Magnitude) -> Number
 }
 
 fn minus(magnitude: Magnitude) -> Number
-    ensures { result ≡ minusOf magnitude }
+    ensures { result ≡ minus_of magnitude }
 {
     match magnitude {
         Magnitude::NoNumber => Number::NoNumber,
@@ -179,7 +179,7 @@ pub fn read_number(text: &[u8]) -> Number
 
 // Minus a number that is at most 2^31.
 fn negative(value: u32) -> i32
-    requires { value ≤ signedEnd }
+    requires { value ≤ signed_end }
     ensures { result ≡ negated value }
 {
     if LARGEST_SIGNED < value {
@@ -212,7 +212,7 @@ pub fn as_signed(number: Number) -> Signed
 
 // The number as an unsigned one; `-0` is 0.
 pub fn as_unsigned(number: Number) -> Unsigned
-    ensures { result ≡ unsignedOf number }
+    ensures { result ≡ unsigned_of number }
 {
     match number {
         Number::NoNumber => Unsigned::NoNumber,

@@ -1,6 +1,6 @@
 // A whole line: its command and its echo.
 ghost use Rattle.std.specs.Prelude.{◌≤◌};
-ghost use Rattle.command.specs.Lines.{lineSize};
+ghost use Rattle.command.specs.Lines.{line_size};
 
 use crate::flaw::Flaw;
 use crate::line::{Line, SIZE};
@@ -16,7 +16,7 @@ pub struct Asked {
 
 // What a line asks, given whether an LF ended it: a CR goes only before an LF.
 pub fn requested(line: Line, ended: bool) -> Asked
-    ensures { result.echo.count ≤ lineSize }
+    ensures { result.echo.count ≤ line_size }
 {
     if SIZE <= line.count {
         return Asked {
@@ -31,8 +31,8 @@ pub fn requested(line: Line, ended: bool) -> Asked
 }
 
 fn of_text(echo: Text) -> Asked
-    requires { echo.count ≤ lineSize }
-    ensures { result.echo.count ≤ lineSize }
+    requires { echo.count ≤ line_size }
+    ensures { result.echo.count ≤ line_size }
 {
     let bytes = echo.bytes;
     let count = echo.count;

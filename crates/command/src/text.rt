@@ -1,7 +1,7 @@
 // A line's text: no comment, no blanks at its ends, and one space between two words.
 ghost use Rattle.std.specs.Prelude.{◌≡◌, ◌≤◌};
-ghost use Rattle.command.specs.Lines.{lineSize};
-ghost use Rattle.command.specs.Texts.{isBlank, emptyText, put as putTo, with as withByte, text_of};
+ghost use Rattle.command.specs.Lines.{line_size};
+ghost use Rattle.command.specs.Texts.{is_blank, empty_text, put as putTo, with as withByte, text_of};
 
 use crate::line::{Line, SIZE};
 
@@ -20,14 +20,14 @@ pub struct Text {
 }
 
 fn is_blank(byte: u8) -> bool
-    ensures { result ≡ isBlank byte }
+    ensures { result ≡ is_blank byte }
 {
     byte == SPACE || byte == TAB
 }
 
 impl Text {
     fn empty() -> Text
-        ensures { (result ≡ emptyText) × (result.count ≤ lineSize) }
+        ensures { (result ≡ empty_text) × (result.count ≤ line_size) }
     {
         Text {
             bytes: [0; SIZE],
@@ -37,8 +37,8 @@ impl Text {
     }
 
     fn put(mut self, byte: u8) -> Text
-        requires { self.count ≤ lineSize }
-        ensures { (result ≡ putTo self byte) × (result.count ≤ lineSize) }
+        requires { self.count ≤ line_size }
+        ensures { (result ≡ putTo self byte) × (result.count ≤ line_size) }
     {
         let at = self.count;
         if SIZE <= at {
@@ -52,8 +52,8 @@ impl Text {
 
     // The text with the line's next byte.
     fn with(mut self, byte: u8) -> Text
-        requires { self.count ≤ lineSize }
-        ensures { (result ≡ withByte self byte) × (result.count ≤ lineSize) }
+        requires { self.count ≤ line_size }
+        ensures { (result ≡ withByte self byte) × (result.count ≤ line_size) }
     {
         if is_blank(byte) {
             self.gap = true;
@@ -70,8 +70,8 @@ impl Text {
 
     // The text of a line.
     pub fn of(line: Line) -> Text
-        requires { line.count ≤ lineSize }
-        ensures { (result ≡ text_of line) × (result.count ≤ lineSize) }
+        requires { line.count ≤ line_size }
+        ensures { (result ≡ text_of line) × (result.count ≤ line_size) }
     {
         let mut text = Text::empty();
         let mut i = 0;
@@ -88,7 +88,7 @@ impl Text {
 
     // What stands for a line that is too long.
     pub fn long() -> Text
-        ensures { result.count ≤ lineSize }
+        ensures { result.count ≤ line_size }
     {
         Text::empty()
             .put(b'(')

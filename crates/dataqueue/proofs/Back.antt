@@ -4,27 +4,27 @@ use mathlib.Core.Path.{◌≡◌, sym, ap, ◌∙◌, subst}
 use mathlib.Core.List.{List, map}
 use lib.ListN.{take}
 use Rattle.arrays.specs.Pad.{pad}
-use Rattle.arrays.proofs.Pads.{pad-take}
-use Rattle.itron.specs.Limits.{maxQueues, maxWords}
+use Rattle.arrays.proofs.Pads.{pad_take}
+use Rattle.itron.specs.Limits.{max_queues, max_words}
 use Rattle.model.specs.State as Model
 use Rattle.model.specs.Conditions.{QueuesFit}
-use Rattle.dataqueue.specs.View.{queueSeen, queuesOf}
-use Rattle.dataqueue.specs.Form.{noRecord, laid, spread, queuesAs}
+use Rattle.dataqueue.specs.View.{queue_seen, queues_of}
+use Rattle.dataqueue.specs.Form.{no_record, laid, spread, queues_as}
 use Rattle.dataqueue.specs.Held.{Held}
-use Rattle.dataqueue.proofs.Parts.{laid-length, queues-back}
+use Rattle.dataqueue.proofs.Parts.{laid_length, queues_back}
 
-pub back-queues : (qs : List Model.Queue) → QueuesFit qs → queuesOf (queuesAs qs) ≡ qs
-unfolding queuesOf queuesAs
-back-queues qs f =
-    let w = pad maxWords 0 (spread qs) in
-    ap (λ (n : ℕ). map (queueSeen w) (take n (pad maxQueues noRecord (laid 0 qs)))) (sym (laid-length 0 qs))
-    ∙ ap (map (queueSeen w)) (pad-take noRecord maxQueues (laid 0 qs))
-    ∙ queues-back maxWords qs f.buffers
+pub back_queues : (qs : List Model.Queue) → QueuesFit qs → queues_of (queues_as qs) ≡ qs
+unfolding queues_of queues_as
+back_queues qs f =
+    let w = pad max_words 0 (spread qs) in
+    ap (λ (n : ℕ). map (queue_seen w) (take n (pad max_queues no_record (laid 0 qs)))) (sym (laid_length 0 qs))
+    ∙ ap (map (queue_seen w)) (pad_take no_record max_queues (laid 0 qs))
+    ∙ queues_back max_words qs f.buffers
 
-pub held-as : (qs : List Model.Queue) → QueuesFit qs → Held (queuesAs qs)
-unfolding queuesAs
-held-as qs f = record {
-  form = ap queuesAs (sym (back-queues qs f));
-  fit = subst (λ (x : List Model.Queue). QueuesFit x) (sym (back-queues qs f)) f;
+pub held_as : (qs : List Model.Queue) → QueuesFit qs → Held (queues_as qs)
+unfolding queues_as
+held_as qs f = record {
+  form = ap queues_as (sym (back_queues qs f));
+  fit = subst (λ (x : List Model.Queue). QueuesFit x) (sym (back_queues qs f)) f;
   few = f.few;
 }

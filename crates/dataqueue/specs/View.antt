@@ -6,12 +6,12 @@ use Rattle.dataqueue.specs.declared.state.Queues.{Queues}
 use Rattle.dataqueue.specs.declared.state.QueueInfo.{QueueInfo}
 
 -- a record with its words
-abbrev pub queueSeen : List ℕ → Queue → Model.Queue
-queueSeen ws q = record { domain = q.domain; attribute = q.attribute; capacity = q.capacity; buffer = take q.len (drop q.first ws); vector = q.vector }
+abbrev pub queue_seen : List ℕ → Queue → Model.Queue
+queue_seen ws q = record { domain = q.domain; attribute = q.attribute; capacity = q.capacity; buffer = take q.len (drop q.first ws); vector = q.vector }
 
-unfoldable pub queuesOf : Queues → List Model.Queue
-queuesOf q = map (queueSeen q.words) (take q.count q.records)
+unfoldable pub queues_of : Queues → List Model.Queue
+queues_of q = map (queue_seen q.words) (take q.count q.records)
 
 -- a queue but for its words
-abbrev pub infoOf : Model.Queue → QueueInfo
-infoOf q = record { domain = q.domain; attribute = q.attribute; capacity = q.capacity; count = length q.buffer; vector = q.vector }
+abbrev pub info_of : Model.Queue → QueueInfo
+info_of q = record { domain = q.domain; attribute = q.attribute; capacity = q.capacity; count = length q.buffer; vector = q.vector }

@@ -1,14 +1,14 @@
 // What can be asked of a data queue, and what that does once its checks are passed (document 01, "Calls on an open gateway"; forced send: request T-05; priority order: request T-10).
 ghost use Rattle.std.specs.Prelude.{◌≡◌, suc, ◌<◌, length};
-ghost use Rattle.model.specs.Acts.{operationOf};
+ghost use Rattle.model.specs.Acts.{operation_of};
 ghost use Rattle.model.specs.Answers as Model;
-ghost use Rattle.model.specs.Queues.{actOf, operation, does, onSend, onReceive, onForce, told};
-ghost use Rattle.tasks.specs.View.{entriesOf, waitsOf};
+ghost use Rattle.model.specs.Queues.{act_of, operation, does, on_send, on_receive, on_force, told};
+ghost use Rattle.tasks.specs.View.{entries_of, waits_of};
 ghost use Rattle.tasks.specs.Held as TasksHeld;
 ghost use Rattle.tasks.specs.Held.{Passed};
-ghost use Rattle.dataqueue.specs.View.{queuesOf};
+ghost use Rattle.dataqueue.specs.View.{queues_of};
 ghost use Rattle.dataqueue.specs.Held.{Held};
-ghost use Rattle.dataqueue.specs.Effects.{acted, effectAs, refusedWith, doneWith, endedWith};
+ghost use Rattle.dataqueue.specs.Effects.{acted, effect_as, refused_with, done_with, ended_with};
 
 use crate::state::Queues;
 use access::vector::Operation;
@@ -34,7 +34,7 @@ pub struct Effect {
 
 // E_OK with a word, nobody released.
 pub(crate) fn done(tasks: Tasks, queues: Queues, word: u32) -> Effect
-    ensures { result ≡ doneWith tasks queues word }
+    ensures { result ≡ done_with tasks queues word }
 {
     Effect {
         reply: Reply::plain(E_OK, word),
@@ -46,7 +46,7 @@ pub(crate) fn done(tasks: Tasks, queues: Queues, word: u32) -> Effect
 
 // A refusal: its code, with everything as it was.
 pub(crate) fn refused(tasks: Tasks, queues: Queues, code: i32) -> Effect
-    ensures { result ≡ refusedWith tasks queues code }
+    ensures { result ≡ refused_with tasks queues code }
 {
     Effect {
         reply: Reply::plain(code, 0),
@@ -58,7 +58,7 @@ pub(crate) fn refused(tasks: Tasks, queues: Queues, code: i32) -> Effect
 
 // An end on the tasks, with the queues beside it.
 pub(crate) fn ended(end: Ended, queues: Queues) -> Effect
-    ensures { result ≡ endedWith end queues }
+    ensures { result ≡ ended_with end queues }
 {
     let reply = end.reply;
     let tasks = end.tasks;
@@ -79,8 +79,8 @@ pub(crate) fn send(
     patience: Patience,
     word: u32,
 ) -> Effect
-    requires { TasksHeld.Held tasks × Held queues × TasksHeld.Free (entriesOf tasks) (waitsOf tasks) task × (object < length (queuesOf queues)) }
-    ensures { result ≡ effectAs (entriesOf tasks) (onSend (waitsOf tasks) (queuesOf queues) (suc task) (suc object) word patience) }
+    requires { TasksHeld.Held tasks × Held queues × TasksHeld.Free (entries_of tasks) (waits_of tasks) task × (object < length (queues_of queues)) }
+    ensures { result ≡ effect_as (entries_of tasks) (on_send (waits_of tasks) (queues_of queues) (suc task) (suc object) word patience) }
 {
     match tasks.first(Side::Receiving, object, RECEIVERS_BY_PRIORITY) {
         First::Waiter(receiver, _) => ended(tasks.wake(receiver, 0, word), queues),
@@ -105,8 +105,8 @@ pub(crate) fn receive(
     object: usize,
     patience: Patience,
 ) -> Effect
-    requires { TasksHeld.Held tasks × Held queues × TasksHeld.Free (entriesOf tasks) (waitsOf tasks) task × (object < length (queuesOf queues)) }
-    ensures { result ≡ effectAs (entriesOf tasks) (onReceive (entriesOf tasks) (waitsOf tasks) (queuesOf queues) (suc task) (suc object) patience) }
+    requires { TasksHeld.Held tasks × Held queues × TasksHeld.Free (entries_of tasks) (waits_of tasks) task × (object < length (queues_of queues)) }
+    ensures { result ≡ effect_as (entries_of tasks) (on_receive (entries_of tasks) (waits_of tasks) (queues_of queues) (suc task) (suc object) patience) }
 {
     let queue = queues.records[object];
     let by_priority = attribute::by_priority(queue.attribute);
@@ -130,8 +130,8 @@ pub(crate) fn receive(
 
 // Forced send. It takes no task: it never waits.
 pub(crate) fn force(tasks: Tasks, queues: Queues, object: usize, word: u32) -> Effect
-    requires { TasksHeld.Held tasks × Held queues × (object < length (queuesOf queues)) }
-    ensures { result ≡ effectAs (entriesOf tasks) (onForce (waitsOf tasks) (queuesOf queues) (suc object) word) }
+    requires { TasksHeld.Held tasks × Held queues × (object < length (queues_of queues)) }
+    ensures { result ≡ effect_as (entries_of tasks) (on_force (waits_of tasks) (queues_of queues) (suc object) word) }
 {
     let queue = queues.records[object];
     if queue.capacity == 0 {
@@ -156,8 +156,8 @@ pub(crate) fn own(
     object: usize,
     call: QueueCall,
 ) -> Effect
-    requires { TasksHeld.Held tasks × Held queues × TasksHeld.Free (entriesOf tasks) (waitsOf tasks) task × (object < length (queuesOf queues)) }
-    ensures { result ≡ effectAs (entriesOf tasks) (does (entriesOf tasks) (waitsOf tasks) (queuesOf queues) (suc task) (suc object) call) }
+    requires { TasksHeld.Held tasks × Held queues × TasksHeld.Free (entries_of tasks) (waits_of tasks) task × (object < length (queues_of queues)) }
+    ensures { result ≡ effect_as (entries_of tasks) (does (entries_of tasks) (waits_of tasks) (queues_of queues) (suc task) (suc object) call) }
 {
     match call {
         QueueCall::Send(patience, word) => send(tasks, queues, task, object, patience, word),
@@ -168,8 +168,8 @@ pub(crate) fn own(
 
 // Refer.
 pub(crate) fn refer(tasks: Tasks, queues: Queues, object: usize) -> Effect
-    requires { TasksHeld.Held tasks × Held queues × (object < length (queuesOf queues)) }
-    ensures { result ≡ effectAs (entriesOf tasks) (Model.effect (Model.tells (told (entriesOf tasks) (waitsOf tasks) (queuesOf queues) (suc object))) (waitsOf tasks) (queuesOf queues)) }
+    requires { TasksHeld.Held tasks × Held queues × (object < length (queues_of queues)) }
+    ensures { result ≡ effect_as (entries_of tasks) (Model.effect (Model.tells (told (entries_of tasks) (waits_of tasks) (queues_of queues) (suc object))) (waits_of tasks) (queues_of queues)) }
 {
     let queue = queues.records[object];
     let by_priority = attribute::by_priority(queue.attribute);
@@ -192,7 +192,7 @@ pub(crate) fn refer(tasks: Tasks, queues: Queues, object: usize) -> Effect
 
 // Which operation a request is judged as.
 pub fn operation(request: QueueRequest) -> Operation
-    ensures { result ≡ operationOf operation (actOf request) }
+    ensures { result ≡ operation_of operation (act_of request) }
 {
     match request {
         QueueRequest::Own(call) => match call {
@@ -207,8 +207,8 @@ pub fn operation(request: QueueRequest) -> Operation
 
 // What a request does, by what its checks found.
 pub fn act(tasks: Tasks, queues: Queues, check: Check, request: QueueRequest) -> Effect
-    requires { TasksHeld.Held tasks × Held queues × Passed tasks (length (queuesOf queues)) check }
-    ensures { result ≡ acted tasks queues (actOf request) check }
+    requires { TasksHeld.Held tasks × Held queues × Passed tasks (length (queues_of queues)) check }
+    ensures { result ≡ acted tasks queues (act_of request) check }
 {
     match check {
         Check::Refused(code) => refused(tasks, queues, code),

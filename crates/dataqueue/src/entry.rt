@@ -1,13 +1,13 @@
 // The entry of a data queue (document 01, "Building the table").
 ghost use Rattle.std.specs.Prelude.{◌≡◌, [], ◌∷◌, ◌++◌, ◌+◌, ◌≤◌, ◌<◌, length};
-ghost use Rattle.itron.specs.Limits.{maxQueues, maxWords};
+ghost use Rattle.itron.specs.Limits.{max_queues, max_words};
 ghost use Rattle.access.specs.declared.vector.Choice.TheVariants.{Given};
-ghost use Rattle.model.specs.Queues.{wordsUsed, newQueue};
-ghost use Rattle.dataqueue.specs.View.{queuesOf};
-ghost use Rattle.dataqueue.specs.Form.{queuesAs};
+ghost use Rattle.model.specs.Queues.{words_used, new_queue};
+ghost use Rattle.dataqueue.specs.View.{queues_of};
+ghost use Rattle.dataqueue.specs.Form.{queues_as};
 ghost use Rattle.dataqueue.specs.Held.{Held};
 ghost use Rattle.model.specs.Answers.{result_of};
-ghost use Rattle.dataqueue.specs.Entries.{entryCheck};
+ghost use Rattle.dataqueue.specs.Entries.{entry_check};
 
 use crate::state::{Queue, Queues};
 use access::vector::{Choice, Vector};
@@ -28,7 +28,7 @@ impl Queues {
     // The words that all queues together can hold: where the part of the next one starts.
     pub(crate) fn words_used(self) -> usize
         requires { Held self }
-        ensures { result ≡ wordsUsed (queuesOf self) }
+        ensures { result ≡ words_used (queues_of self) }
     {
         let count = self.count;
         if count == 0 {
@@ -42,7 +42,7 @@ impl Queues {
     // The checks of an entry's own numbers; E_OK where none hits.
     pub fn check(self, attribute: u32, capacity: u32) -> i32
         requires { Held self }
-        ensures { result ≡ result_of (entryCheck (queuesOf self) attribute capacity) }
+        ensures { result ≡ result_of (entry_check (queues_of self) attribute capacity) }
     {
         if !attribute::is_order(attribute) {
             return E_RSATR;
@@ -66,8 +66,8 @@ impl Queues {
         capacity: u32,
         vector: Vector,
     ) -> Queues
-        requires { Held self × (length (queuesOf self) < maxQueues) × (wordsUsed (queuesOf self) + capacity ≤ maxWords) }
-        ensures { result ≡ queuesAs (queuesOf self ++ (newQueue domain attribute capacity (Given vector) ∷ [])) }
+        requires { Held self × (length (queues_of self) < max_queues) × (words_used (queues_of self) + capacity ≤ max_words) }
+        ensures { result ≡ queues_as (queues_of self ++ (new_queue domain attribute capacity (Given vector) ∷ [])) }
     {
         let at = self.count;
         let first = self.words_used();
@@ -86,8 +86,8 @@ impl Queues {
 
     // One queue more, as given, its default vector resolved.
     pub fn register(self, given: QueueEntry) -> Queues
-        requires { Held self × (length (queuesOf self) < maxQueues) × (wordsUsed (queuesOf self) + given.capacity ≤ maxWords) }
-        ensures { result ≡ queuesAs (queuesOf self ++ (newQueue given.domain given.attribute given.capacity given.vector ∷ [])) }
+        requires { Held self × (length (queues_of self) < max_queues) × (words_used (queues_of self) + given.capacity ≤ max_words) }
+        ensures { result ≡ queues_as (queues_of self ++ (new_queue given.domain given.attribute given.capacity given.vector ∷ [])) }
     {
         let choice = given.vector;
         let vector = choice.resolve(given.domain);

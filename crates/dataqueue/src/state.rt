@@ -2,11 +2,11 @@
 ghost use Rattle.std.specs.Prelude.{◌≡◌, [], suc, ◌<◌, length, get_or};
 ghost use Rattle.model.specs.Lists.{at};
 ghost use Rattle.model.specs.State.{no};
-ghost use Rattle.model.specs.Rooms.{setVectorOf};
-ghost use Rattle.model.specs.Queues.{queueIn, room};
-ghost use Rattle.model.specs.Checks.{targetIn};
-ghost use Rattle.dataqueue.specs.View.{queuesOf, infoOf};
-ghost use Rattle.dataqueue.specs.Form.{noRecord, laid, queuesAs};
+ghost use Rattle.model.specs.Rooms.{set_vector_of};
+ghost use Rattle.model.specs.Queues.{queue_in, room};
+ghost use Rattle.model.specs.Checks.{target_in};
+ghost use Rattle.dataqueue.specs.View.{queues_of, info_of};
+ghost use Rattle.dataqueue.specs.Form.{no_record, laid, queues_as};
 ghost use Rattle.dataqueue.specs.Held.{Held};
 
 use access::domain;
@@ -58,7 +58,7 @@ pub struct QueueInfo {
 impl Queues {
     // No queue.
     pub fn empty() -> Queues
-        ensures { result ≡ queuesAs [] }
+        ensures { result ≡ queues_as [] }
     {
         Queues {
             count: 0,
@@ -70,15 +70,15 @@ impl Queues {
     // How many queues there are.
     pub fn len(self) -> usize
         requires { Held self }
-        ensures { result ≡ length (queuesOf self) }
+        ensures { result ≡ length (queues_of self) }
     {
         self.count
     }
 
     // The vector that calls on a queue are judged by.
     pub(crate) fn vector(self, object: usize) -> Vector
-        requires { Held self × (object < length (queuesOf self)) }
-        ensures { result ≡ (queueIn (queuesOf self) (suc object)).vector }
+        requires { Held self × (object < length (queues_of self)) }
+        ensures { result ≡ (queue_in (queues_of self) (suc object)).vector }
     {
         let queue = self.records[object];
         queue.vector
@@ -87,7 +87,7 @@ impl Queues {
     // Which queue a number names.
     pub fn find(self, id: i32) -> Target
         requires { Held self }
-        ensures { result ≡ targetIn room (queuesOf self) (no id) }
+        ensures { result ≡ target_in room (queues_of self) (no id) }
     {
         let ordinal = domain::ordinal(id, MAX_QUEUES);
         if ordinal == 0 {
@@ -103,8 +103,8 @@ impl Queues {
 
     // Set-vector: all four patterns are replaced.
     pub(crate) fn set_vector(mut self, object: usize, vector: Vector) -> Queues
-        requires { Held self × (object < length (queuesOf self)) }
-        ensures { result ≡ queuesAs (setVectorOf room (queuesOf self) (suc object) vector) }
+        requires { Held self × (object < length (queues_of self)) }
+        ensures { result ≡ queues_as (set_vector_of room (queues_of self) (suc object) vector) }
     {
         let mut queue = self.records[object];
         queue.vector = vector;
@@ -115,7 +115,7 @@ impl Queues {
     // The record with a number; all zeros where there is none.
     pub(crate) fn record_of(self, number: usize) -> Queue
         requires { Held self }
-        ensures { result ≡ at noRecord (laid 0 (queuesOf self)) number }
+        ensures { result ≡ at no_record (laid 0 (queues_of self)) number }
     {
         if number == 0 {
             return Queue::NONE;
@@ -130,7 +130,7 @@ impl Queues {
     // The queue with a number; all zeros where there is none.
     pub fn queue(self, number: usize) -> QueueInfo
         requires { Held self }
-        ensures { result ≡ infoOf (queueIn (queuesOf self) number) }
+        ensures { result ≡ info_of (queue_in (queues_of self) number) }
     {
         let queue = self.record_of(number);
         let vector = queue.vector;
@@ -146,7 +146,7 @@ impl Queues {
     // The buffered word with k older ones before it; 0 where there is none.
     pub fn word(self, number: usize, k: usize) -> u32
         requires { Held self }
-        ensures { result ≡ get_or (queueIn (queuesOf self) number).buffer k 0 }
+        ensures { result ≡ get_or (queue_in (queues_of self) number).buffer k 0 }
     {
         let queue = self.record_of(number);
         if queue.len <= k {

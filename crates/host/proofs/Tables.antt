@@ -7,10 +7,10 @@ use Rattle.model.specs.State as Model
 use Rattle.kernel.specs.declared.state.State.{State}
 use Rattle.kernel.specs.View.{view_of}
 use Rattle.batch.specs.declared.run.Ran.{Ran}
-use Rattle.batch.specs.Encoding.{answerWords, answersIn}
-use Rattle.batch.specs.Runs.{itemsMade, callsMade, historyMade, Runs}
+use Rattle.batch.specs.Encoding.{answer_words, answers_in}
+use Rattle.batch.specs.Runs.{items_made, calls_made, history_made, Runs}
 use Rattle.laws.specs.Starred.{bench}
-use Rattle.laws.proofs.Starred.{bench-just-closed}
+use Rattle.laws.proofs.Starred.{bench_just_closed}
 use Rattle.model.proofs.Demand3.{demand3}
 use Rattle.host.specs.Hosted.{Hosted}
 
@@ -18,6 +18,6 @@ pub hosted : {s : State} {calls before behind : List ℕ} {r : Ran} → view_of 
 hosted {s} {calls} {before} {behind} {r} e h =
     record {
       answered = h.answered;
-      answers = h.answers ∙ ap (λ (m : Model.State). answersIn (itemsMade calls before) (historyMade m calls before) ++ drop (r.answered * answerWords) before) e;
-      demand = demand3 bench bench-just-closed (callsMade calls before);
+      answers = h.answers ∙ ap (λ (m : Model.State). answers_in (items_made calls before) (history_made m calls before) ++ drop (r.answered * answer_words) before) e;
+      demand = demand3 bench bench_just_closed (calls_made calls before);
     }

@@ -1,10 +1,10 @@
 // One image: its base address and its bytes.
 ghost use Rattle.std.specs.Prelude.{◌≡◌, true};
-ghost use Rattle.model.specs.Images.{image, endsBy, liesIn, partIn};
+ghost use Rattle.model.specs.Images.{image, ends_by, lies_in, part_in};
 
 // Whether an image ends at an address or before it. Its length is compared with what lies between: base plus length might not fit.
 pub(crate) fn ends_by(base: u32, bytes: &[u8], address: u64) -> bool
-    ensures { result ≡ endsBy (image base bytes.now) address }
+    ensures { result ≡ ends_by (image base bytes.now) address }
 {
     let from = base as u64;
     if address < from {
@@ -15,7 +15,7 @@ pub(crate) fn ends_by(base: u32, bytes: &[u8], address: u64) -> bool
 
 // Whether an area lies wholly in an image that begins at an address. A place and a size of 32 bits each have a sum that fits.
 pub(crate) fn lies_in(from: u32, bytes: &[u8], base: u32, size: u32) -> bool
-    ensures { result ≡ liesIn (image from bytes.now) base size }
+    ensures { result ≡ lies_in (image from bytes.now) base size }
 {
     if base < from {
         return false;
@@ -26,8 +26,8 @@ pub(crate) fn lies_in(from: u32, bytes: &[u8], base: u32, size: u32) -> bool
 
 // The part of an image in which an area lies, as it stands there.
 pub(crate) fn cut(from: u32, bytes: &[u8], base: u32, size: u32) -> &[u8]
-    requires { liesIn (image from bytes.now) base size ≡ true }
-    ensures { result.now ≡ partIn (image from bytes.now) base size }
+    requires { lies_in (image from bytes.now) base size ≡ true }
+    ensures { result.now ≡ part_in (image from bytes.now) base size }
 {
     let start = (base - from) as usize;
     let end = start + size as usize;

@@ -1,6 +1,6 @@
 // Flash and RAM, lent together: whether they can be, and what of them an area is.
 ghost use Rattle.std.specs.Prelude.{◌≡◌};
-ghost use Rattle.model.specs.Images.{image, apart, imagesOk, holder, is_held, part_of};
+ghost use Rattle.model.specs.Images.{image, apart, images_ok, holder, is_held, part_of};
 
 use crate::image::{cut, ends_by, lies_in};
 use itron::limit::ADDRESS_END;
@@ -24,7 +24,7 @@ pub(crate) fn are_apart<'a>(bases: Bases, flash: &'a [u8], ram: &'a [u8]) -> boo
 
 // Whether the two can be lent together.
 pub fn are_images<'a>(bases: Bases, flash: &'a [u8], ram: &'a [u8]) -> bool
-    ensures { result ≡ imagesOk (image bases.flash flash.now) (image bases.ram ram.now) }
+    ensures { result ≡ images_ok (image bases.flash flash.now) (image bases.ram ram.now) }
 {
     ends_by(bases.flash, flash, ADDRESS_END)
         & ends_by(bases.ram, ram, ADDRESS_END)

@@ -3,7 +3,7 @@ use Rattle.std.specs.Prelude.{ℤ, pos, negsuc}
 
 -- the refusals
 pub data Err : Type 0 where
-  eSys eRsatr ePar eId eCtx eMacv eOacv eIluse eNomem eNoid eObj eNoexs eQovr eTmout : Err
+  e_sys e_rsatr e_par e_id e_ctx e_macv e_oacv e_iluse e_nomem e_noid e_obj e_noexs e_qovr e_tmout : Err
 
 -- what a call answers: done, "waiting" (which is not a refusal and has no number), or a refusal
 pub data Code : Type 0 where
@@ -11,22 +11,22 @@ pub data Code : Type 0 where
   error : Err → Code
 
 -- E_OK
-abbrev pub okNumber : ℤ
-okNumber = pos 0
+abbrev pub ok_number : ℤ
+ok_number = pos 0
 
 -- the number of each refusal; negsuc k is -(k + 1)
 abbrev pub number_of : Err → ℤ
-number_of eSys = negsuc 4
-number_of eRsatr = negsuc 10
-number_of ePar = negsuc 16
-number_of eId = negsuc 17
-number_of eCtx = negsuc 24
-number_of eMacv = negsuc 25
-number_of eOacv = negsuc 26
-number_of eIluse = negsuc 27
-number_of eNomem = negsuc 32
-number_of eNoid = negsuc 33
-number_of eObj = negsuc 40
-number_of eNoexs = negsuc 41
-number_of eQovr = negsuc 42
-number_of eTmout = negsuc 49
+number_of e_sys = negsuc 4
+number_of e_rsatr = negsuc 10
+number_of e_par = negsuc 16
+number_of e_id = negsuc 17
+number_of e_ctx = negsuc 24
+number_of e_macv = negsuc 25
+number_of e_oacv = negsuc 26
+number_of e_iluse = negsuc 27
+number_of e_nomem = negsuc 32
+number_of e_noid = negsuc 33
+number_of e_obj = negsuc 40
+number_of e_noexs = negsuc 41
+number_of e_qovr = negsuc 42
+number_of e_tmout = negsuc 49

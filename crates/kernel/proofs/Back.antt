@@ -11,15 +11,15 @@ use Rattle.model.specs.Answers.{Out}
 use Rattle.model.specs.Table.{Entry, fresh, enter, close}
 use Rattle.model.specs.Calls.{Call, step}
 use Rattle.model.specs.Conditions.{Fit, Sound}
-use Rattle.model.proofs.Sound.{sound-step}
-use Rattle.model.proofs.Steps.{kept-law}
-use Rattle.model.proofs.Table.{sound-fresh, sound-enter, sound-close, enter-kept, close-kept}
+use Rattle.model.proofs.Sound.{sound_step}
+use Rattle.model.proofs.Steps.{kept_law}
+use Rattle.model.proofs.Table.{sound_fresh, sound_enter, sound_close, enter_kept, close_kept}
 use Rattle.tasks.specs.declared.state.Tasks.{Tasks}
 use Rattle.tasks.specs.Held as TasksHeld
 use Rattle.tasks.proofs.Back as TasksBack
-use Rattle.levels.specs.View.{levelsOf}
-use Rattle.levels.specs.Form.{levelsAs}
-use Rattle.levels.proofs.Back.{back-levels}
+use Rattle.levels.specs.View.{levels_of}
+use Rattle.levels.specs.Form.{levels_as}
+use Rattle.levels.proofs.Back.{back_levels}
 use Rattle.semaphore.specs.declared.state.Semaphores.{Semaphores}
 use Rattle.semaphore.specs.Held as SemsHeld
 use Rattle.semaphore.proofs.Back as SemsBack
@@ -43,15 +43,15 @@ pub back : (m : Model.State) → Fit m → view_of (state_of m) ≡ m
 back m f =
     let d = TasksBack.back-entries m.fixed.tasks m.waits f.waits in
     let w = TasksBack.back-waits m.fixed.tasks m.waits f.waits in
-    let l = ap (λ (es : List TaskEntry). levelsOf (length es) (levelsAs m.levels)) d ∙ back-levels (length m.fixed.tasks) m.levels f.levels.each in
+    let l = ap (λ (es : List TaskEntry). levels_of (length es) (levels_as m.levels)) d ∙ back_levels (length m.fixed.tasks) m.levels f.levels.each in
     let x = SemsBack.back-sems m.sems in
     let q = QueuesBack.back-queues m.queues f.queues in
     let u = RegionsBack.back-unit m.fixed.unit m.fixed.regions in
     let r = RegionsBack.back-regions m.fixed.unit m.fixed.regions in
     λ i. record { fixed = record { closed = m.fixed.closed; count = m.fixed.count; unit = u i; tasks = d i; regions = r i }; waits = w i; sems = x i; queues = q i; levels = l i }
 
-pub valid-form : (m : Model.State) → Sound m → Valid (state_of m)
-valid-form m k =
+pub valid_form : (m : Model.State) → Sound m → Valid (state_of m)
+valid_form m k =
     let b = back m k.fit in
     record { form = ap state_of (sym b); sound = subst (λ (x : Model.State). Sound x) (sym b) k }
 
@@ -61,30 +61,30 @@ faithful v v' e = v.form ∙ ap state_of e ∙ sym v'.form
 
 -- ---- the parts of a valid state are held
 module _ {s : State} (v : Valid s) where
-  pub tasks-held : TasksHeld.Held s.tasks
-  tasks-held = subst (λ (t : Tasks). TasksHeld.Held t) (sym (ap (λ (x : State). x.tasks) v.form)) (TasksBack.held-as (view_of s).fixed.tasks (view_of s).waits v.sound.fit.waits)
+  pub tasks_held : TasksHeld.Held s.tasks
+  tasks_held = subst (λ (t : Tasks). TasksHeld.Held t) (sym (ap (λ (x : State). x.tasks) v.form)) (TasksBack.held-as (view_of s).fixed.tasks (view_of s).waits v.sound.fit.waits)
 
-  pub sems-held : SemsHeld.Held s.semaphores
-  sems-held = subst (λ (t : Semaphores). SemsHeld.Held t) (sym (ap (λ (x : State). x.semaphores) v.form)) (SemsBack.held-as (view_of s).sems v.sound.fit.sems)
+  pub sems_held : SemsHeld.Held s.semaphores
+  sems_held = subst (λ (t : Semaphores). SemsHeld.Held t) (sym (ap (λ (x : State). x.semaphores) v.form)) (SemsBack.held-as (view_of s).sems v.sound.fit.sems)
 
-  pub queues-held : QueuesHeld.Held s.queues
-  queues-held = subst (λ (t : Queues). QueuesHeld.Held t) (sym (ap (λ (x : State). x.queues) v.form)) (QueuesBack.held-as (view_of s).queues v.sound.fit.queues)
+  pub queues_held : QueuesHeld.Held s.queues
+  queues_held = subst (λ (t : Queues). QueuesHeld.Held t) (sym (ap (λ (x : State). x.queues) v.form)) (QueuesBack.held-as (view_of s).queues v.sound.fit.queues)
 
-  pub regions-held : RegionsHeld.Held s.regions
-  regions-held = subst (λ (t : Regions). RegionsHeld.Held t) (sym (ap (λ (x : State). x.regions) v.form)) (RegionsBack.held-as (view_of s).fixed.unit (view_of s).fixed.regions v.sound.unit.power v.sound.fit.regions)
+  pub regions_held : RegionsHeld.Held s.regions
+  regions_held = subst (λ (t : Regions). RegionsHeld.Held t) (sym (ap (λ (x : State). x.regions) v.form)) (RegionsBack.held-as (view_of s).fixed.unit (view_of s).fixed.regions v.sound.unit.power v.sound.fit.regions)
 
 -- ---- the whole promise from the one equation
 module _ {s : State} (v : Valid s) where
   pub promise : (c : Call) {r : Answer} → r ≡ answer_of (step (view_of s) c) → Does s c r
   promise c {r} e =
       let o = step (view_of s) c in
-      let k = sound-step (view_of s) c v.sound in
+      let k = sound_step (view_of s) c v.sound in
       let a : r.state ≡ state_of o.state = ap (λ (x : Answer). x.state) e in
       record {
         same = e;
         seen = ap view_of a ∙ back o.state k.fit;
-        valid = subst (λ (x : State). Valid x) (sym a) (valid-form o.state k);
-        kept = λ x h. a ∙ ap state_of (kept-law (view_of s) c x h) ∙ sym v.form;
+        valid = subst (λ (x : State). Valid x) (sym a) (valid_form o.state k);
+        kept = λ x h. a ∙ ap state_of (kept_law (view_of s) c x h) ∙ sym v.form;
       }
 
   enters : (o : Out) → Sound o.state → ((x : Err) → o.answer.code ≡ error x → o.state ≡ view_of s) → {r : Entered} → r ≡ entered_of o → Enters s o r
@@ -93,19 +93,19 @@ module _ {s : State} (v : Valid s) where
       record {
         same = e;
         seen = ap view_of a ∙ back o.state k.fit;
-        valid = subst (λ (x : State). Valid x) (sym a) (valid-form o.state k);
+        valid = subst (λ (x : State). Valid x) (sym a) (valid_form o.state k);
         kept = λ x q. a ∙ ap state_of (h x q) ∙ sym v.form;
       }
 
-  pub enters-entry : (i : Entry) {r : Entered} → r ≡ entered_of (enter (view_of s) i) → Enters s (enter (view_of s) i) r
-  enters-entry i e = enters (enter (view_of s) i) (sound-enter (view_of s) i v.sound) (λ x h. enter-kept (view_of s) i x h) e
+  pub enters_entry : (i : Entry) {r : Entered} → r ≡ entered_of (enter (view_of s) i) → Enters s (enter (view_of s) i) r
+  enters_entry i e = enters (enter (view_of s) i) (sound_enter (view_of s) i v.sound) (λ x h. enter_kept (view_of s) i x h) e
 
-  pub enters-close : {r : Entered} → r ≡ entered_of (close (view_of s)) → Enters s (close (view_of s)) r
-  enters-close e = enters (close (view_of s)) (sound-close (view_of s) v.sound) (λ x h. close-kept (view_of s) x h) e
+  pub enters_close : {r : Entered} → r ≡ entered_of (close (view_of s)) → Enters s (close (view_of s)) r
+  enters_close e = enters (close (view_of s)) (sound_close (view_of s) v.sound) (λ x h. close_kept (view_of s) x h) e
 
 pub begins : (n : ℤ) (unit : ℕ) {r : Entered} → r ≡ entered_of (fresh n unit) → Begins n unit r
 begins n unit {r} e =
     let o = fresh n unit in
-    let k = sound-fresh n unit in
+    let k = sound_fresh n unit in
     let a : r.state ≡ state_of o.state = ap (λ (x : Entered). x.state) e in
-    record { same = e; seen = ap view_of a ∙ back o.state k.fit; valid = subst (λ (x : State). Valid x) (sym a) (valid-form o.state k) }
+    record { same = e; seen = ap view_of a ∙ back o.state k.fit; valid = subst (λ (x : State). Valid x) (sym a) (valid_form o.state k) }

@@ -8,11 +8,11 @@ use Rattle.itron.specs.Codes.{Err}
 use Rattle.model.specs.State.{no}
 use Rattle.model.specs.Answers.{plain, no_info}
 use Rattle.model.specs.Acts.{Act}
-use Rattle.model.specs.Rooms.{Room, actOn, onRecords, Asks, onObject}
+use Rattle.model.specs.Rooms.{Room, act_on, on_records, Asks, on_object}
 use Rattle.model.specs.Semaphores as Semaphores
 use Rattle.model.specs.Queues as Queues
-use Rattle.model.specs.Calls.{Op, call, asks, actIf, step}
-use Rattle.model.proofs.Refers.{refer-state}
+use Rattle.model.specs.Calls.{Op, call, asks, act_if, step}
+use Rattle.model.proofs.Refers.{refer_state}
 use Rattle.model.specs.declared.check.Check.{Check}
 use Rattle.model.specs.declared.check.Check.TheVariants.{Refused, Admitted}
 use Rattle.semaphore.specs.declared.call.Effect as SemaphoreEffect
@@ -26,7 +26,7 @@ use Rattle.kernel.specs.Form.{state_of}
 use Rattle.kernel.specs.Valid.{Valid}
 use Rattle.kernel.specs.Promises.{Does, Tells}
 use Rattle.kernel.specs.Answers.{answered, answer_of}
-use Rattle.kernel.specs.Inside.{withTasks, withSemaphores, withQueues, checkOf}
+use Rattle.kernel.specs.Inside.{with_tasks, with_semaphores, with_queues, check_of}
 use Rattle.kernel.proofs.Back.{promise}
 use Rattle.kernel.proofs.Checks.{refusal, admission}
 
@@ -37,32 +37,32 @@ pub record Part {C R : Type 0} (r : Room C R) (E : Type 0) (s : State) : Type 0 
   pub answer : E → Answer
   -- a refusal leaves everything as it was; an effect is the rules' effect
   pub refused : (a : Act C) (d : ℤ) → answer (acted a (Refused d)) ≡ answered (plain d 0) no_info s
-  pub does : (a : Act C) (t o : ℕ) → answer (acted a (Admitted t o)) ≡ answer_of (onRecords r (view_of s) (actOn r (view_of s).fixed.tasks (view_of s).waits (r.records (view_of s)) (suc t) (suc o) a))
+  pub does : (a : Act C) (t o : ℕ) → answer (acted a (Admitted t o)) ≡ answer_of (on_records r (view_of s) (act_on r (view_of s).fixed.tasks (view_of s).waits (r.records (view_of s)) (suc t) (suc o) a))
 
 module _ {s : State} (v : Valid s) where
   abbrev pub semaphores : Part Semaphores.room SemaphoreEffect.Effect s
   semaphores = record {
     acted = SemaphoreEffects.acted s.tasks s.semaphores;
-    answer = λ e. answered e.reply e.info (withSemaphores (withTasks s e.tasks) e.semaphores);
+    answer = λ e. answered e.reply e.info (with_semaphores (with_tasks s e.tasks) e.semaphores);
     refused = λ a d. refl;
-    does = λ a t o. let e = SemaphoreEffects.acted s.tasks s.semaphores a (Admitted t o) in ap (λ (x : State). answered e.reply e.info (withSemaphores (withTasks x e.tasks) e.semaphores)) v.form;
+    does = λ a t o. let e = SemaphoreEffects.acted s.tasks s.semaphores a (Admitted t o) in ap (λ (x : State). answered e.reply e.info (with_semaphores (with_tasks x e.tasks) e.semaphores)) v.form;
   }
 
   abbrev pub queues : Part Queues.room QueueEffect.Effect s
   queues = record {
     acted = QueueEffects.acted s.tasks s.queues;
-    answer = λ e. answered e.reply e.info (withQueues (withTasks s e.tasks) e.queues);
+    answer = λ e. answered e.reply e.info (with_queues (with_tasks s e.tasks) e.queues);
     refused = λ a d. refl;
-    does = λ a t o. let e = QueueEffects.acted s.tasks s.queues a (Admitted t o) in ap (λ (x : State). answered e.reply e.info (withQueues (withTasks x e.tasks) e.queues)) v.form;
+    does = λ a t o. let e = QueueEffects.acted s.tasks s.queues a (Admitted t o) in ap (λ (x : State). answered e.reply e.info (with_queues (with_tasks x e.tasks) e.queues)) v.form;
   }
 
 -- ---- a call on an object of a part
 module _ {s : State} (v : Valid s) {C R : Type 0} {r : Room C R} {E : Type 0} (p : Part r E s) (z n : ℤ) (a : Act C) where
   -- the rules' answer, whatever the checks give
   abbrev by : Option Err → Answer
-  by o = answer_of (actIf (view_of s) (no z) (onObject r n a) o)
+  by o = answer_of (act_if (view_of s) (no z) (on_object r n a) o)
 
-  answers : (k : Check) → checkOf r s z n a ≡ k → p.answer (p.acted a k) ≡ by ((onObject r n a).check (view_of s) (no z))
+  answers : (k : Check) → check_of r s z n a ≡ k → p.answer (p.acted a k) ≡ by ((on_object r n a).check (view_of s) (no z))
   answers (Refused d) h =
       let x = refusal r s z n a d h in
       let e = x.number in
@@ -72,17 +72,17 @@ module _ {s : State} (v : Valid s) {C R : Type 0} {r : Room C R} {E : Type 0} (p
       let x = admission r s z n a t o h in
       let t = sym x.task in
       let o = sym x.object in
-      p.does a _ _ ∙ (λ i. answer_of (onRecords r (view_of s) (actOn r (view_of s).fixed.tasks (view_of s).waits (r.records (view_of s)) (t i) (o i) a))) ∙ ap by (sym x.found)
+      p.does a _ _ ∙ (λ i. answer_of (on_records r (view_of s) (act_on r (view_of s).fixed.tasks (view_of s).waits (r.records (view_of s)) (t i) (o i) a))) ∙ ap by (sym x.found)
 
-  pub on-part : (op : Op) → asks op ≡ onObject r n a → {x : E} {q : Answer} → x ≡ p.acted a (checkOf r s z n a) → q ≡ p.answer x → Does s (call z op) q
+  pub on_part : (op : Op) → asks op ≡ on_object r n a → {x : E} {q : Answer} → x ≡ p.acted a (check_of r s z n a) → q ≡ p.answer x → Does s (call z op) q
   unfolding step
-  on-part op h e q =
-      promise v (call z op) (q ∙ ap p.answer e ∙ answers (checkOf r s z n a) refl ∙ ap (λ (x : Asks). answer_of (actIf (view_of s) (no z) x (x.check (view_of s) (no z)))) (sym h))
+  on_part op h e q =
+      promise v (call z op) (q ∙ ap p.answer e ∙ answers (check_of r s z n a) refl ∙ ap (λ (x : Asks). answer_of (act_if (view_of s) (no z) x (x.check (view_of s) (no z)))) (sym h))
 
 -- ---- a refer gives back the very state
-pub tells : {s : State} → Valid s → (z : ℤ) (op : Op) → (asks op).isRefer ≡ true → {r : Answer} → Does s (call z op) r → Tells s (call z op) r
+pub tells : {s : State} → Valid s → (z : ℤ) (op : Op) → (asks op).is_refer ≡ true → {r : Answer} → Does s (call z op) r → Tells s (call z op) r
 tells {s} v z op h d = record {
   same = d.same;
   valid = d.valid;
-  kept = ap (λ (x : Answer). x.state) d.same ∙ ap state_of (refer-state (view_of s) z op h) ∙ sym v.form;
+  kept = ap (λ (x : Answer). x.state) d.same ∙ ap state_of (refer_state (view_of s) z op h) ∙ sym v.form;
 }

@@ -11,19 +11,19 @@ use lib.IntN.{ℤ}
 use lib.ListN.{length}
 use types.Run.{OneOf}
 use denote.Enum.Declared.{tag_of}
-use Rattle.access.specs.Domains.{runningOf}
-use Rattle.access.specs.Vectors.{patternOf}
-use Rattle.itron.specs.Codes.{Err, eCtx, eId, ePar, eNoexs, eOacv, number_of}
+use Rattle.access.specs.Domains.{running_of}
+use Rattle.access.specs.Vectors.{pattern_of}
+use Rattle.itron.specs.Codes.{Err, e_ctx, e_id, e_par, e_noexs, e_oacv, number_of}
 use Rattle.model.specs.Lists.{index}
 use Rattle.model.specs.State as Model
-use Rattle.model.specs.State.{domainAt, levelAt, running_at, no}
-use Rattle.model.specs.Answers.{refuseIf}
-use Rattle.model.specs.Acts.{Act, operationOf, clear}
-use Rattle.model.specs.Rooms.{Room, ready, in_range, admits, vectorAt, slots_of, check}
-use Rattle.model.specs.Checks.{targetIn, checked}
+use Rattle.model.specs.State.{domain_at, level_at, running_at, no}
+use Rattle.model.specs.Answers.{refuse_if}
+use Rattle.model.specs.Acts.{Act, operation_of, clear}
+use Rattle.model.specs.Rooms.{Room, ready, in_range, admits, vector_at, slots_of, check}
+use Rattle.model.specs.Checks.{target_in, checked}
 use Rattle.model.specs.Waits.{absent}
 use Rattle.model.proofs.Lists.{and_right, no_both, both}
-use Rattle.model.proofs.Rooms.{calls-of, passed}
+use Rattle.model.proofs.Rooms.{calls_of, passed}
 use Rattle.model.specs.declared.check.Check.{Check}
 use Rattle.model.specs.declared.check.Check.TheVariants.{Refused, Admitted}
 use Rattle.model.specs.declared.check.Target.{Target}
@@ -35,50 +35,50 @@ use Rattle.tasks.specs.contracts.wait.Caller.{the_type as caller-type}
 use Rattle.tasks.specs.Held.{Free, Passed}
 use Rattle.kernel.specs.declared.state.State.{State}
 use Rattle.kernel.specs.View.{view_of}
-use Rattle.kernel.specs.Inside.{callerIn, checkedBy, checkOf}
+use Rattle.kernel.specs.Inside.{caller_in, checked_by, check_of}
 
 pub nobody : (w : Caller) → OneOf (0 ∷ []) (tag_of caller-type w) → w ≡ Caller.Nobody
 nobody Caller.Nobody t = refl
 nobody (Caller.Ready n d) t = absurd (omega arith)
 
-pub is-out : (x : Target) → OneOf (0 ∷ []) (tag_of target-type x) → x ≡ OutOfRange
-is-out OutOfRange t = refl
-is-out Missing t = absurd (omega arith)
-is-out (At n v) t = absurd (omega arith)
+pub is_out : (x : Target) → OneOf (0 ∷ []) (tag_of target-type x) → x ≡ OutOfRange
+is_out OutOfRange t = refl
+is_out Missing t = absurd (omega arith)
+is_out (At n v) t = absurd (omega arith)
 
-pub is-missing : (x : Target) → OneOf (1 ∷ []) (tag_of target-type x) → x ≡ Missing
-is-missing OutOfRange t = absurd (omega arith)
-is-missing Missing t = refl
-is-missing (At n v) t = absurd (omega arith)
+pub is_missing : (x : Target) → OneOf (1 ∷ []) (tag_of target-type x) → x ≡ Missing
+is_missing OutOfRange t = absurd (omega arith)
+is_missing Missing t = refl
+is_missing (At n v) t = absurd (omega arith)
 
 -- ---- who calls, which object, and whether the caller may: the checks of a call that must meet nothing besides
 module _ {C R : Type 0} (r : Room C R) (m : Model.State) (t n : ℕ) (a : Act C) where
   abbrev may : Bool
-  may = admits (running_at m t) (patternOf (vectorAt r m n) (operationOf r.operation a))
+  may = admits (running_at m t) (pattern_of (vector_at r m n) (operation_of r.operation a))
 
-  by_may : (b : Bool) → cond b (Admitted (index t) (index n)) (Refused (number_of eOacv)) ≡ checked (refuseIf (not b) eOacv none) t n
+  by_may : (b : Bool) → cond b (Admitted (index t) (index n)) (Refused (number_of e_oacv)) ≡ checked (refuse_if (not b) e_oacv none) t n
   by_may true = refl
   by_may false = refl
 
   by_tests : (ready here there : Bool)
-      → checkedBy (cond ready (Caller.Ready (index t) (running_at m t)) Caller.Nobody) (operationOf r.operation a) (cond here (cond there (At (index n) (vectorAt r m n)) Missing) OutOfRange)
-      ≡ checked (refuseIf (not ready) eCtx (refuseIf (not here) eId (refuseIf (not there) eNoexs (refuseIf (not may) eOacv none)))) t n
+      → checked_by (cond ready (Caller.Ready (index t) (running_at m t)) Caller.Nobody) (operation_of r.operation a) (cond here (cond there (At (index n) (vector_at r m n)) Missing) OutOfRange)
+      ≡ checked (refuse_if (not ready) e_ctx (refuse_if (not here) e_id (refuse_if (not there) e_noexs (refuse_if (not may) e_oacv none)))) t n
   by_tests false here there = refl
   by_tests true false there = refl
   by_tests true true false = refl
   by_tests true true true = by_may may
 
-  pub check-is : slots_of r m n a ≡ clear → checkedBy (callerIn m t) (operationOf r.operation a) (targetIn r (r.records m) n) ≡ checked (check r m t n a) t n
+  pub check_is : slots_of r m n a ≡ clear → checked_by (caller_in m t) (operation_of r.operation a) (target_in r (r.records m) n) ≡ checked (check r m t n a) t n
   unfolding check
-  check-is h =
+  check_is h =
       let g = sym h in
       by_tests (m.fixed.closed && ready m t) (in_range r.most n) (leb n (length (r.records m)))
       ∙ (λ i.
       checked
-      (refuseIf (not (m.fixed.closed && ready m t)) eCtx
-      (refuseIf (not (in_range r.most n)) eId
-      (refuseIf (not (g i).arguments) ePar
-      (refuseIf (not (leb n (length (r.records m)))) eNoexs (refuseIf (not (g i).numbers) ePar (refuseIf (not may) eOacv (g i).misuse))))))
+      (refuse_if (not (m.fixed.closed && ready m t)) e_ctx
+      (refuse_if (not (in_range r.most n)) e_id
+      (refuse_if (not (g i).arguments) e_par
+      (refuse_if (not (leb n (length (r.records m)))) e_noexs (refuse_if (not (g i).numbers) e_par (refuse_if (not may) e_oacv (g i).misuse))))))
       t
       n)
 
@@ -95,21 +95,21 @@ module _ (m : Model.State) (t : ℕ) where
     pub names : t ≡ suc task
     pub low : task < length m.fixed.tasks
 
-  called-by : (task : ℕ) → m.fixed.closed && ready m t ≡ true → index t ≡ task → Called task
-  called-by task h i =
-      let k = calls-of m t (and_right m.fixed.closed (ready m t) h) in
+  called_by : (task : ℕ) → m.fixed.closed && ready m t ≡ true → index t ≡ task → Called task
+  called_by task h i =
+      let k = calls_of m t (and_right m.fixed.closed (ready m t) h) in
       let e : t ≡ suc task = number t k.caller ∙ ap suc i in
       let l = k.known in
       record { may = h; names = e; low = omega arith }
 
-  pub called : (task : ℕ) {d : ℤ} → callerIn m t ≡ Caller.Ready task d → Called task
+  pub called : (task : ℕ) {d : ℤ} → caller_in m t ≡ Caller.Ready task d → Called task
   called task {d} h = go (m.fixed.closed && ready m t) refl h
     where
       go : (b : Bool) → m.fixed.closed && ready m t ≡ b → cond b (Caller.Ready (index t) (running_at m t)) Caller.Nobody ≡ Caller.Ready task d → Called task
-      go true e q = called-by task e (cc)
+      go true e q = called_by task e (cc)
       go false e q = absurd (let z : ◌≡◌ {A = ℕ} 0 1 = cc in omega arith)
 
-  pub uncalled : callerIn m t ≡ Caller.Nobody → m.fixed.closed && ready m t ≡ false
+  pub uncalled : caller_in m t ≡ Caller.Nobody → m.fixed.closed && ready m t ≡ false
   uncalled h = go (m.fixed.closed && ready m t) refl h
     where
       go : (b : Bool) → m.fixed.closed && ready m t ≡ b → cond b (Caller.Ready (index t) (running_at m t)) Caller.Nobody ≡ Caller.Nobody → m.fixed.closed && ready m t ≡ false
@@ -118,36 +118,36 @@ module _ (m : Model.State) (t : ℕ) where
 
   -- who calls, as the tasks name it: with its own domain
   abbrev pub owned : Caller
-  owned = cond (ready m t) (Caller.Ready (index t) (domainAt m t)) Caller.Nobody
+  owned = cond (ready m t) (Caller.Ready (index t) (domain_at m t)) Caller.Nobody
 
   -- of a closed table
   module _ (c : m.fixed.closed ≡ true) where
-    pub nobody-calls : owned ≡ Caller.Nobody → Caller.Nobody ≡ callerIn m t
-    nobody-calls h = go (ready m t) h ∙ ap (λ (b : Bool). cond (b && ready m t) (Caller.Ready (index t) (running_at m t)) Caller.Nobody) (sym c)
+    pub nobody_calls : owned ≡ Caller.Nobody → Caller.Nobody ≡ caller_in m t
+    nobody_calls h = go (ready m t) h ∙ ap (λ (b : Bool). cond (b && ready m t) (Caller.Ready (index t) (running_at m t)) Caller.Nobody) (sym c)
       where
-        go : (b : Bool) → cond b (Caller.Ready (index t) (domainAt m t)) Caller.Nobody ≡ Caller.Nobody → Caller.Nobody ≡ cond b (Caller.Ready (index t) (running_at m t)) Caller.Nobody
+        go : (b : Bool) → cond b (Caller.Ready (index t) (domain_at m t)) Caller.Nobody ≡ Caller.Nobody → Caller.Nobody ≡ cond b (Caller.Ready (index t) (running_at m t)) Caller.Nobody
         go true q = absurd (let z : ◌≡◌ {A = ℕ} 0 1 = cc in omega arith)
         go false q = refl
 
     -- a registered task
-    pub known-caller : (task : ℕ) {d : ℤ} → owned ≡ Caller.Ready task d → Called task
-    known-caller task {d} h = go (ready m t) refl h
+    pub known_caller : (task : ℕ) {d : ℤ} → owned ≡ Caller.Ready task d → Called task
+    known_caller task {d} h = go (ready m t) refl h
       where
-        go : (b : Bool) → ready m t ≡ b → cond b (Caller.Ready (index t) (domainAt m t)) Caller.Nobody ≡ Caller.Ready task d → Called task
-        go true e q = called-by task (both c e) (cc)
+        go : (b : Bool) → ready m t ≡ b → cond b (Caller.Ready (index t) (domain_at m t)) Caller.Nobody ≡ Caller.Ready task d → Called task
+        go true e q = called_by task (both c e) (cc)
         go false e q = absurd (let z : ◌≡◌ {A = ℕ} 0 1 = cc in omega arith)
 
-    pub runs_as : (task : ℕ) {d : ℤ} (k : ℕ) → owned ≡ Caller.Ready task d → k ≡ levelAt m (suc task) → Caller.Ready task (runningOf d k) ≡ callerIn m t
+    pub runs_as : (task : ℕ) {d : ℤ} (k : ℕ) → owned ≡ Caller.Ready task d → k ≡ level_at m (suc task) → Caller.Ready task (running_of d k) ≡ caller_in m t
     runs_as task {d} k h e =
-        let n = known-caller task h in
-        let l : k ≡ levelAt m t = e ∙ ap (levelAt m) (sym n.names) in
-        go (m.fixed.closed && ready m t) n.may l (ap (λ (b : Bool). cond b (Caller.Ready (index t) (domainAt m t)) Caller.Nobody) (sym (and_right m.fixed.closed (ready m t) n.may)) ∙ h)
+        let n = known_caller task h in
+        let l : k ≡ level_at m t = e ∙ ap (level_at m) (sym n.names) in
+        go (m.fixed.closed && ready m t) n.may l (ap (λ (b : Bool). cond b (Caller.Ready (index t) (domain_at m t)) Caller.Nobody) (sym (and_right m.fixed.closed (ready m t) n.may)) ∙ h)
       where
-        go : (b : Bool) → b ≡ true → k ≡ levelAt m t → Caller.Ready (index t) (domainAt m t) ≡ Caller.Ready task d → Caller.Ready task (runningOf d k) ≡ cond b (Caller.Ready (index t) (running_at m t)) Caller.Nobody
+        go : (b : Bool) → b ≡ true → k ≡ level_at m t → Caller.Ready (index t) (domain_at m t) ≡ Caller.Ready task d → Caller.Ready task (running_of d k) ≡ cond b (Caller.Ready (index t) (running_at m t)) Caller.Nobody
         go true y l q =
             let i : task ≡ index t = cc in
-            let j : d ≡ domainAt m t = cc in
-            λ x. Caller.Ready (i x) (runningOf (j x) (l x))
+            let j : d ≡ domain_at m t = cc in
+            λ x. Caller.Ready (i x) (running_of (j x) (l x))
         go false y l q = absurd (no_both y refl)
 
 -- ---- what the checks found
@@ -158,7 +158,7 @@ module _ {C R : Type 0} (r : Room C R) (s : State) (z n : ℤ) (a : Act C) where
     pub number : code ≡ number_of err
     pub found : check r (view_of s) (no z) (no n) a ≡ some err
 
-  pub refusal : (code : ℤ) → checkOf r s z n a ≡ Refused code → Refusal code
+  pub refusal : (code : ℤ) → check_of r s z n a ≡ Refused code → Refusal code
   refusal code e = go (check r (view_of s) (no z) (no n) a) refl e
     where
       go : (o : Option Err) → check r (view_of s) (no z) (no n) a ≡ o → checked o (no z) (no n) ≡ Refused code → Refusal code
@@ -173,7 +173,7 @@ module _ {C R : Type 0} (r : Room C R) (s : State) (z n : ℤ) (a : Act C) where
     pub object : no n ≡ suc o
     pub found : check r (view_of s) (no z) (no n) a ≡ none
 
-  pub admission : (t o : ℕ) → checkOf r s z n a ≡ Admitted t o → Admission t o
+  pub admission : (t o : ℕ) → check_of r s z n a ≡ Admitted t o → Admission t o
   admission t o e = go (check r (view_of s) (no z) (no n) a) refl e
     where
       go : (x : Option Err) → check r (view_of s) (no z) (no n) a ≡ x → checked x (no z) (no n) ≡ Admitted t o → Admission t o
@@ -195,5 +195,5 @@ module _ {C R : Type 0} (r : Room C R) (s : State) (z n : ℤ) (a : Act C) where
           }
 
   -- what an effect may take for granted of what they found
-  pub passes : {k : Check} → checkOf r s z n a ≡ k → Passed s.tasks (length (r.records (view_of s))) k
+  pub passes : {k : Check} → check_of r s z n a ≡ k → Passed s.tasks (length (r.records (view_of s))) k
   passes h = record { free = λ t o e. (admission t o (h ∙ e)).free; there = λ t o e. (admission t o (h ∙ e)).there }

@@ -2,13 +2,13 @@
 use Rattle.std.specs.Prelude.{ℕ, zero, suc, Bool, true, cond, not, ◌&&◌, ltb, ℤ, pos, negsuc}
 use Rattle.std.proofs.Math.Option.{Option, none}
 use Rattle.access.specs.Patterns.{admitted}
-use Rattle.access.specs.Vectors.{patternOf}
+use Rattle.access.specs.Vectors.{pattern_of}
 use Rattle.access.specs.declared.vector.Operation.{Operation}
-use Rattle.itron.specs.Codes.{Err, eCtx, eNoid, eId, eNoexs, eOacv, number_of}
+use Rattle.itron.specs.Codes.{Err, e_ctx, e_noid, e_id, e_noexs, e_oacv, number_of}
 use Rattle.model.specs.Lists.{index}
 use Rattle.model.specs.State as Model
 use Rattle.model.specs.State.{running_at, no}
-use Rattle.model.specs.Answers.{Out, code_of, refuseIf}
+use Rattle.model.specs.Answers.{Out, code_of, refuse_if}
 use Rattle.model.specs.Acts.{Act}
 use Rattle.model.specs.Rooms.{Room, ready, check}
 use Rattle.model.specs.Checks.{checked}
@@ -21,7 +21,7 @@ use Rattle.tasks.specs.declared.wait.Caller.{Caller}
 use Rattle.tasks.specs.declared.wait.Caller.TheVariants as Caller
 use Rattle.levels.specs.declared.state.Levels.{Levels}
 use Rattle.levels.specs.declared.call.Effect.{Effect}
-use Rattle.levels.specs.Form.{levelsAs}
+use Rattle.levels.specs.Form.{levels_as}
 use Rattle.semaphore.specs.declared.state.Semaphores.{Semaphores}
 use Rattle.dataqueue.specs.declared.state.Queues.{Queues}
 use Rattle.regions.specs.declared.state.Regions.{Regions}
@@ -29,50 +29,50 @@ use Rattle.kernel.specs.declared.state.State.{State}
 use Rattle.kernel.specs.View.{view_of}
 
 -- ---- the state with another part
-abbrev pub withTasks : State → Tasks → State
-withTasks s t = record { domains = s.domains; closed = s.closed; tasks = t; levels = s.levels; semaphores = s.semaphores; queues = s.queues; regions = s.regions }
+abbrev pub with_tasks : State → Tasks → State
+with_tasks s t = record { domains = s.domains; closed = s.closed; tasks = t; levels = s.levels; semaphores = s.semaphores; queues = s.queues; regions = s.regions }
 
-abbrev pub withLevels : State → Levels → State
-withLevels s x = record { domains = s.domains; closed = s.closed; tasks = s.tasks; levels = x; semaphores = s.semaphores; queues = s.queues; regions = s.regions }
+abbrev pub with_levels : State → Levels → State
+with_levels s x = record { domains = s.domains; closed = s.closed; tasks = s.tasks; levels = x; semaphores = s.semaphores; queues = s.queues; regions = s.regions }
 
-abbrev pub withSemaphores : State → Semaphores → State
-withSemaphores s x = record { domains = s.domains; closed = s.closed; tasks = s.tasks; levels = s.levels; semaphores = x; queues = s.queues; regions = s.regions }
+abbrev pub with_semaphores : State → Semaphores → State
+with_semaphores s x = record { domains = s.domains; closed = s.closed; tasks = s.tasks; levels = s.levels; semaphores = x; queues = s.queues; regions = s.regions }
 
-abbrev pub withQueues : State → Queues → State
-withQueues s x = record { domains = s.domains; closed = s.closed; tasks = s.tasks; levels = s.levels; semaphores = s.semaphores; queues = x; regions = s.regions }
+abbrev pub with_queues : State → Queues → State
+with_queues s x = record { domains = s.domains; closed = s.closed; tasks = s.tasks; levels = s.levels; semaphores = s.semaphores; queues = x; regions = s.regions }
 
-abbrev pub withRegions : State → Regions → State
-withRegions s x = record { domains = s.domains; closed = s.closed; tasks = s.tasks; levels = s.levels; semaphores = s.semaphores; queues = s.queues; regions = x }
+abbrev pub with_regions : State → Regions → State
+with_regions s x = record { domains = s.domains; closed = s.closed; tasks = s.tasks; levels = s.levels; semaphores = s.semaphores; queues = s.queues; regions = x }
 
 abbrev pub shut : State → State
 shut s = record { domains = s.domains; closed = true; tasks = s.tasks; levels = s.levels; semaphores = s.semaphores; queues = s.queues; regions = s.regions }
 
 -- ---- the checks
 -- a registered ready task of a closed table, with the domain as which it runs
-abbrev pub callerIn : Model.State → ℕ → Caller
-callerIn m t = cond (m.fixed.closed && ready m t) (Caller.Ready (index t) (running_at m t)) Caller.Nobody
+abbrev pub caller_in : Model.State → ℕ → Caller
+caller_in m t = cond (m.fixed.closed && ready m t) (Caller.Ready (index t) (running_at m t)) Caller.Nobody
 
 -- first hit wins: who calls, which object, and whether the caller's running domain is admitted
-abbrev pub checkedBy : Caller → Operation → Target → Check
-checkedBy Caller.Nobody o x = Refused (number_of eCtx)
-checkedBy (Caller.Ready t d) o OutOfRange = Refused (number_of eId)
-checkedBy (Caller.Ready t d) o Missing = Refused (number_of eNoexs)
-checkedBy (Caller.Ready t d) o (At n v) = cond (admitted (patternOf v o) d) (Admitted t n) (Refused (number_of eOacv))
+abbrev pub checked_by : Caller → Operation → Target → Check
+checked_by Caller.Nobody o x = Refused (number_of e_ctx)
+checked_by (Caller.Ready t d) o OutOfRange = Refused (number_of e_id)
+checked_by (Caller.Ready t d) o Missing = Refused (number_of e_noexs)
+checked_by (Caller.Ready t d) o (At n v) = cond (admitted (pattern_of v o) d) (Admitted t n) (Refused (number_of e_oacv))
 
 -- what the checks give for an act of task z on the object n
-abbrev pub checkOf : {C R : Type 0} → Room C R → State → ℤ → ℤ → Act C → Check
-checkOf r s z n a = checked (check r (view_of s) (no z) (no n) a) (no z) (no n)
+abbrev pub check_of : {C R : Type 0} → Room C R → State → ℤ → ℤ → Act C → Check
+check_of r s z n a = checked (check r (view_of s) (no z) (no n) a) (no z) (no n)
 
 -- ---- what a call on the caller's level gives: its code and the levels after it
-abbrev pub levelsGiven : Out → Effect
-levelsGiven o = record { code = code_of o.answer.code; levels = levelsAs o.state.levels }
+abbrev pub levels_given : Out → Effect
+levels_given o = record { code = code_of o.answer.code; levels = levels_as o.state.levels }
 
 -- ---- steps 1 to 3 of an entry's checks
 abbrev pub opening : Bool → ℕ → ℕ → Bool → Option Err
-opening closed used most owned = refuseIf closed eCtx (refuseIf (not (ltb used most)) eNoid (refuseIf (not owned) eId none))
+opening closed used most owned = refuse_if closed e_ctx (refuse_if (not (ltb used most)) e_noid (refuse_if (not owned) e_id none))
 
 -- of two codes of checks the first that refuses
-abbrev pub firstHit : ℤ → ℤ → ℤ
-firstHit (pos zero) z = z
-firstHit (pos (suc n)) z = pos (suc n)
-firstHit (negsuc n) z = negsuc n
+abbrev pub first_hit : ℤ → ℤ → ℤ
+first_hit (pos zero) z = z
+first_hit (pos (suc n)) z = pos (suc n)
+first_hit (negsuc n) z = negsuc n

@@ -3,7 +3,7 @@ ghost use Rattle.std.specs.Prelude.{◌≡◌};
 ghost use Rattle.model.specs.State.{no};
 ghost use Rattle.kernel.specs.View.{view_of};
 ghost use Rattle.kernel.specs.Valid.{Valid};
-ghost use Rattle.kernel.specs.Inside.{callerIn, checkedBy};
+ghost use Rattle.kernel.specs.Inside.{caller_in, checked_by};
 
 use crate::state::State;
 use access::domain::running;
@@ -17,7 +17,7 @@ impl State {
     // A registered ready task of a closed table, with the domain as which it runs.
     pub(crate) fn caller(self, number: i32) -> Caller
         requires { Valid self }
-        ensures { result ≡ callerIn (view_of self) (no number) }
+        ensures { result ≡ caller_in (view_of self) (no number) }
     {
         if !self.closed {
             return Caller::Nobody;
@@ -33,7 +33,7 @@ impl State {
     // First hit wins.
     pub(crate) fn check(self, caller: i32, target: Target, operation: Operation) -> Check
         requires { Valid self }
-        ensures { result ≡ checkedBy (callerIn (view_of self) (no caller)) operation target }
+        ensures { result ≡ checked_by (caller_in (view_of self) (no caller)) operation target }
     {
         let Caller::Ready(task, domain) = self.caller(caller) else {
             return Check::Refused(E_CTX);

@@ -1,19 +1,19 @@
 // Data queues: their entry, the calls on them (both sends, forced send, both receives, refer and set-vector), and what a dump shows of one.
 ghost use Rattle.std.specs.Prelude.{◌≡◌, get_or};
-ghost use Rattle.model.specs.State.{queueAt};
+ghost use Rattle.model.specs.State.{queue_at};
 ghost use Rattle.model.specs.Answers.{result_of};
-ghost use Rattle.model.specs.Acts.{own, refer, setVector};
-ghost use Rattle.model.specs.Queues.{actOf, room};
-ghost use Rattle.model.specs.Table.{checkEntry, enter, queue};
-ghost use Rattle.model.specs.Calls.{call, onQueue};
+ghost use Rattle.model.specs.Acts.{own, refer, set_vector};
+ghost use Rattle.model.specs.Queues.{act_of, room};
+ghost use Rattle.model.specs.Table.{check_entry, enter, queue};
+ghost use Rattle.model.specs.Calls.{call, on_queue};
 ghost use Rattle.model.specs.declared.Patience.TheVariants.{Polling, Forever};
 ghost use Rattle.model.specs.declared.dtq.QueueCall.TheVariants.{Send as send, Receive as receive, ForcedSend as forcedSend};
 ghost use Rattle.dataqueue.specs.Effects.{acted};
-ghost use Rattle.dataqueue.specs.View.{infoOf};
+ghost use Rattle.dataqueue.specs.View.{info_of};
 ghost use Rattle.kernel.specs.View.{view_of};
 ghost use Rattle.kernel.specs.Valid.{Valid};
 ghost use Rattle.kernel.specs.Answers.{answered};
-ghost use Rattle.kernel.specs.Inside.{withTasks, withQueues, checkOf};
+ghost use Rattle.kernel.specs.Inside.{with_tasks, with_queues, check_of};
 ghost use Rattle.kernel.specs.Promises.{Enters, Does, Tells};
 
 use crate::state::{Answer, Entered, State};
@@ -30,7 +30,7 @@ use model::dtq::{QueueCall, QueueRequest};
 impl State {
     pub(crate) fn check_queue(self, given: QueueEntry) -> i32
         requires { Valid self }
-        ensures { result ≡ result_of (checkEntry (view_of self) (queue given.domain given.attribute given.capacity given.vector)) }
+        ensures { result ≡ result_of (check_entry (view_of self) (queue given.domain given.attribute given.capacity given.vector)) }
     {
         let queues = self.queues;
         let opening = self.opening(queues.len(), MAX_QUEUES, self.owns(given.domain));
@@ -53,7 +53,7 @@ impl State {
     // What a request does to the tasks and the queues.
     pub(crate) fn queue_effect(self, caller: i32, id: i32, request: QueueRequest) -> Effect
         requires { Valid self }
-        ensures { result ≡ acted self.tasks self.queues (actOf request) (checkOf room self caller id (actOf request)) }
+        ensures { result ≡ acted self.tasks self.queues (act_of request) (check_of room self caller id (act_of request)) }
     {
         let tasks = self.tasks;
         let queues = self.queues;
@@ -63,7 +63,7 @@ impl State {
 
     // A call's effect on the tasks and the data queues.
     pub(crate) fn with_queues(self, effect: Effect) -> Answer
-        ensures { result ≡ answered effect.reply effect.info (withQueues (withTasks self effect.tasks) effect.queues) }
+        ensures { result ≡ answered effect.reply effect.info (with_queues (with_tasks self effect.tasks) effect.queues) }
     {
         let reply = effect.reply;
         let outcome = reply.outcome;
@@ -87,7 +87,7 @@ impl State {
     // Any request of a data queue. The calls below do not use it: measured, what several of them share copies the whole state.
     pub(crate) fn on_queue(mut self, caller: i32, id: i32, request: QueueRequest) -> Answer
         requires { Valid self }
-        ensures { Does self (call caller (onQueue id (actOf request))) result }
+        ensures { Does self (call caller (on_queue id (act_of request))) result }
     {
         self.with_queues(self.queue_effect(caller, id, request))
     }
@@ -95,7 +95,7 @@ impl State {
     // Poll-send.
     pub fn psnd_dtq(mut self, caller: i32, id: i32, word: u32) -> Answer
         requires { Valid self }
-        ensures { Does self (call caller (onQueue id (own (send Polling word)))) result }
+        ensures { Does self (call caller (on_queue id (own (send Polling word)))) result }
     {
         self.with_queues(self.queue_effect(
             caller,
@@ -107,7 +107,7 @@ impl State {
     // Send.
     pub fn snd_dtq(mut self, caller: i32, id: i32, word: u32) -> Answer
         requires { Valid self }
-        ensures { Does self (call caller (onQueue id (own (send Forever word)))) result }
+        ensures { Does self (call caller (on_queue id (own (send Forever word)))) result }
     {
         self.with_queues(self.queue_effect(
             caller,
@@ -119,7 +119,7 @@ impl State {
     // Forced send.
     pub fn fsnd_dtq(mut self, caller: i32, id: i32, word: u32) -> Answer
         requires { Valid self }
-        ensures { Does self (call caller (onQueue id (own (forcedSend word)))) result }
+        ensures { Does self (call caller (on_queue id (own (forcedSend word)))) result }
     {
         self.with_queues(self.queue_effect(
             caller,
@@ -131,7 +131,7 @@ impl State {
     // Poll-receive.
     pub fn prcv_dtq(mut self, caller: i32, id: i32) -> Answer
         requires { Valid self }
-        ensures { Does self (call caller (onQueue id (own (receive Polling)))) result }
+        ensures { Does self (call caller (on_queue id (own (receive Polling)))) result }
     {
         self.with_queues(self.queue_effect(
             caller,
@@ -143,7 +143,7 @@ impl State {
     // Receive.
     pub fn rcv_dtq(mut self, caller: i32, id: i32) -> Answer
         requires { Valid self }
-        ensures { Does self (call caller (onQueue id (own (receive Forever)))) result }
+        ensures { Does self (call caller (on_queue id (own (receive Forever)))) result }
     {
         self.with_queues(self.queue_effect(
             caller,
@@ -155,7 +155,7 @@ impl State {
     // Refer.
     pub fn ref_dtq(mut self, caller: i32, id: i32) -> Answer
         requires { Valid self }
-        ensures { Tells self (call caller (onQueue id refer)) result }
+        ensures { Tells self (call caller (on_queue id refer)) result }
     {
         self.with_queues(self.queue_effect(caller, id, QueueRequest::Refer))
     }
@@ -163,14 +163,14 @@ impl State {
     // Set-vector.
     pub fn sac_dtq(mut self, caller: i32, id: i32, vector: Vector) -> Answer
         requires { Valid self }
-        ensures { Does self (call caller (onQueue id (setVector vector))) result }
+        ensures { Does self (call caller (on_queue id (set_vector vector))) result }
     {
         self.with_queues(self.queue_effect(caller, id, QueueRequest::SetVector(vector)))
     }
 
     pub fn queue(self, number: usize) -> QueueInfo
         requires { Valid self }
-        ensures { result ≡ infoOf (queueAt (view_of self) number) }
+        ensures { result ≡ info_of (queue_at (view_of self) number) }
     {
         let queues = self.queues;
         queues.queue(number)
@@ -179,7 +179,7 @@ impl State {
     // A queue's buffered word with k older ones; 0 past the last.
     pub fn word(self, number: usize, k: usize) -> u32
         requires { Valid self }
-        ensures { result ≡ get_or (queueAt (view_of self) number).buffer k 0 }
+        ensures { result ≡ get_or (queue_at (view_of self) number).buffer k 0 }
     {
         let queues = self.queues;
         queues.word(number, k)

@@ -1,12 +1,12 @@
 // Memory regions: their entry, the memory verdict, the bytes that are handed out by it, and what a dump shows of a region.
 ghost use Rattle.std.specs.Prelude.{◌≡◌};
 ghost use Rattle.model.specs.Lists.{at};
-ghost use Rattle.model.specs.State.{noRegion};
+ghost use Rattle.model.specs.State.{no_region};
 ghost use Rattle.model.specs.Answers.{result_of};
-ghost use Rattle.model.specs.Table.{checkEntry, enter, region};
+ghost use Rattle.model.specs.Table.{check_entry, enter, region};
 ghost use Rattle.model.specs.Verdict.{verdict};
-ghost use Rattle.model.specs.Images.{image, handOut, handedBytes};
-ghost use Rattle.regions.specs.View.{infoOf};
+ghost use Rattle.model.specs.Images.{image, hand_out, handed_bytes};
+ghost use Rattle.regions.specs.View.{info_of};
 ghost use Rattle.kernel.specs.View.{view_of};
 ghost use Rattle.kernel.specs.Valid.{Valid};
 ghost use Rattle.kernel.specs.Promises.{Enters};
@@ -23,7 +23,7 @@ use regions::state::RegionInfo;
 impl State {
     pub(crate) fn check_region(self, given: RegionEntry) -> i32
         requires { Valid self }
-        ensures { result ≡ result_of (checkEntry (view_of self) (region given.domain given.attribute given.base given.size given.vector)) }
+        ensures { result ≡ result_of (check_entry (view_of self) (region given.domain given.attribute given.base given.size given.vector)) }
     {
         let regions = self.regions;
         let opening = self.opening(regions.len(), MAX_REGIONS, self.owns(given.domain));
@@ -72,7 +72,7 @@ impl State {
         ram: &'a [u8],
     ) -> i32
         requires { Valid self }
-        ensures { result ≡ result_of (handOut (view_of self) domain base size (image bases.flash flash.now) (image bases.ram ram.now)) }
+        ensures { result ≡ result_of (hand_out (view_of self) domain base size (image bases.flash flash.now) (image bases.ram ram.now)) }
     {
         if !self.closed {
             return E_CTX;
@@ -101,7 +101,7 @@ impl State {
         ram: &'a [u8],
     ) -> &'a [u8]
         requires { Valid self }
-        ensures { result.now ≡ handedBytes (view_of self) domain base size (image bases.flash flash.now) (image bases.ram ram.now) }
+        ensures { result.now ≡ handed_bytes (view_of self) domain base size (image bases.flash flash.now) (image bases.ram ram.now) }
     {
         if self.get_mem_code(domain, base, size, bases, flash, ram) != E_OK {
             return &flash[0..0];
@@ -111,7 +111,7 @@ impl State {
 
     pub fn region(self, number: usize) -> RegionInfo
         requires { Valid self }
-        ensures { result ≡ infoOf (at noRegion (view_of self).fixed.regions number) }
+        ensures { result ≡ info_of (at no_region (view_of self).fixed.regions number) }
     {
         let regions = self.regions;
         regions.region(number)

@@ -2,11 +2,11 @@
 // its kind's file. Objects by number, from 1; what is not there is all zeros.
 ghost use Rattle.std.specs.Prelude.{◌≡◌, map, get_or};
 ghost use Rattle.model.specs.State.{place};
-ghost use Rattle.model.specs.Waits.{order_of, waitQueue};
-ghost use Rattle.tasks.specs.Ends.{task_of, taskIn};
+ghost use Rattle.model.specs.Waits.{order_of, wait_queue};
+ghost use Rattle.tasks.specs.Ends.{task_of, task_in};
 ghost use Rattle.kernel.specs.View.{view_of};
 ghost use Rattle.kernel.specs.Valid.{Valid};
-ghost use Rattle.kernel.specs.Answers.{summaryOf};
+ghost use Rattle.kernel.specs.Answers.{summary_of};
 
 use crate::state::State;
 use dataqueue::call::RECEIVERS_BY_PRIORITY;
@@ -28,7 +28,7 @@ pub struct Summary {
 impl State {
     pub fn summary(self) -> Summary
         requires { Valid self }
-        ensures { result ≡ summaryOf (view_of self) }
+        ensures { result ≡ summary_of (view_of self) }
     {
         let tasks = self.tasks;
         let semaphores = self.semaphores;
@@ -69,7 +69,7 @@ impl State {
     // The task that waits on that side of an object with k tasks ahead; 0 past the last.
     pub fn waiter(self, side: Side, number: usize, k: usize) -> usize
         requires { Valid self }
-        ensures { result ≡ get_or (map taskIn (waitQueue (view_of self) (place side number))) k 0 }
+        ensures { result ≡ get_or (map task_in (wait_queue (view_of self) (place side number))) k 0 }
     {
         if number == 0 {
             return 0;

@@ -1,18 +1,18 @@
 // Semaphores: their entry, the calls on them (signal, poll, wait, refer and set-vector), and what a dump shows of one.
 ghost use Rattle.std.specs.Prelude.{◌≡◌};
-ghost use Rattle.model.specs.State.{semAt};
+ghost use Rattle.model.specs.State.{sem_at};
 ghost use Rattle.model.specs.Answers.{result_of};
-ghost use Rattle.model.specs.Acts.{own, refer, setVector};
-ghost use Rattle.model.specs.Semaphores.{actOf, room};
-ghost use Rattle.model.specs.Table.{checkEntry, enter, sem};
-ghost use Rattle.model.specs.Calls.{call, onSemaphore};
+ghost use Rattle.model.specs.Acts.{own, refer, set_vector};
+ghost use Rattle.model.specs.Semaphores.{act_of, room};
+ghost use Rattle.model.specs.Table.{check_entry, enter, sem};
+ghost use Rattle.model.specs.Calls.{call, on_semaphore};
 ghost use Rattle.model.specs.declared.Patience.TheVariants.{Polling, Forever};
 ghost use Rattle.model.specs.declared.sem.SemaphoreCall.TheVariants.{Signal as signal, Acquire as acquire};
 ghost use Rattle.semaphore.specs.Effects.{acted};
 ghost use Rattle.kernel.specs.View.{view_of};
 ghost use Rattle.kernel.specs.Valid.{Valid};
 ghost use Rattle.kernel.specs.Answers.{answered};
-ghost use Rattle.kernel.specs.Inside.{withTasks, withSemaphores, checkOf};
+ghost use Rattle.kernel.specs.Inside.{with_tasks, with_semaphores, check_of};
 ghost use Rattle.kernel.specs.Promises.{Enters, Does, Tells};
 
 use crate::state::{Answer, Entered, State};
@@ -29,7 +29,7 @@ use semaphore::entry::SemaphoreEntry;
 impl State {
     pub(crate) fn check_semaphore(self, given: SemaphoreEntry) -> i32
         requires { Valid self }
-        ensures { result ≡ result_of (checkEntry (view_of self) (sem given.domain given.attribute given.start given.max given.vector)) }
+        ensures { result ≡ result_of (check_entry (view_of self) (sem given.domain given.attribute given.start given.max given.vector)) }
     {
         let semaphores = self.semaphores;
         let opening = self.opening(semaphores.len(), MAX_SEMAPHORES, self.owns(given.domain));
@@ -55,7 +55,7 @@ impl State {
     // What a request does to the tasks and the semaphores.
     pub(crate) fn semaphore_effect(self, caller: i32, id: i32, request: SemaphoreRequest) -> Effect
         requires { Valid self }
-        ensures { result ≡ acted self.tasks self.semaphores (actOf request) (checkOf room self caller id (actOf request)) }
+        ensures { result ≡ acted self.tasks self.semaphores (act_of request) (check_of room self caller id (act_of request)) }
     {
         let tasks = self.tasks;
         let semaphores = self.semaphores;
@@ -65,7 +65,7 @@ impl State {
 
     // A call's effect on the tasks and the semaphores. The state is made anew: measured, storing into it costs a copy of it more.
     pub(crate) fn with_semaphores(self, effect: Effect) -> Answer
-        ensures { result ≡ answered effect.reply effect.info (withSemaphores (withTasks self effect.tasks) effect.semaphores) }
+        ensures { result ≡ answered effect.reply effect.info (with_semaphores (with_tasks self effect.tasks) effect.semaphores) }
     {
         let reply = effect.reply;
         let outcome = reply.outcome;
@@ -89,7 +89,7 @@ impl State {
     // Any request of a semaphore. The calls below do not use it: measured, what several of them share copies the whole state.
     pub(crate) fn on_semaphore(mut self, caller: i32, id: i32, request: SemaphoreRequest) -> Answer
         requires { Valid self }
-        ensures { Does self (call caller (onSemaphore id (actOf request))) result }
+        ensures { Does self (call caller (on_semaphore id (act_of request))) result }
     {
         self.with_semaphores(self.semaphore_effect(caller, id, request))
     }
@@ -97,7 +97,7 @@ impl State {
     // Signal.
     pub fn sig_sem(mut self, caller: i32, id: i32) -> Answer
         requires { Valid self }
-        ensures { Does self (call caller (onSemaphore id (own signal))) result }
+        ensures { Does self (call caller (on_semaphore id (own signal))) result }
     {
         self.with_semaphores(self.semaphore_effect(
             caller,
@@ -109,7 +109,7 @@ impl State {
     // Poll.
     pub fn pol_sem(mut self, caller: i32, id: i32) -> Answer
         requires { Valid self }
-        ensures { Does self (call caller (onSemaphore id (own (acquire Polling)))) result }
+        ensures { Does self (call caller (on_semaphore id (own (acquire Polling)))) result }
     {
         self.with_semaphores(self.semaphore_effect(
             caller,
@@ -121,7 +121,7 @@ impl State {
     // Wait.
     pub fn wai_sem(mut self, caller: i32, id: i32) -> Answer
         requires { Valid self }
-        ensures { Does self (call caller (onSemaphore id (own (acquire Forever)))) result }
+        ensures { Does self (call caller (on_semaphore id (own (acquire Forever)))) result }
     {
         self.with_semaphores(self.semaphore_effect(
             caller,
@@ -133,7 +133,7 @@ impl State {
     // Refer.
     pub fn ref_sem(mut self, caller: i32, id: i32) -> Answer
         requires { Valid self }
-        ensures { Tells self (call caller (onSemaphore id refer)) result }
+        ensures { Tells self (call caller (on_semaphore id refer)) result }
     {
         self.with_semaphores(self.semaphore_effect(caller, id, SemaphoreRequest::Refer))
     }
@@ -141,14 +141,14 @@ impl State {
     // Set-vector.
     pub fn sac_sem(mut self, caller: i32, id: i32, vector: Vector) -> Answer
         requires { Valid self }
-        ensures { Does self (call caller (onSemaphore id (setVector vector))) result }
+        ensures { Does self (call caller (on_semaphore id (set_vector vector))) result }
     {
         self.with_semaphores(self.semaphore_effect(caller, id, SemaphoreRequest::SetVector(vector)))
     }
 
     pub fn semaphore(self, number: usize) -> Semaphore
         requires { Valid self }
-        ensures { result ≡ semAt (view_of self) number }
+        ensures { result ≡ sem_at (view_of self) number }
     {
         let semaphores = self.semaphores;
         semaphores.semaphore(number)

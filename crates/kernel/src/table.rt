@@ -1,11 +1,11 @@
 // Building the table: fresh, a task's entry, closing, and what the entries of all kinds share (document 01, "Building the table").
 ghost use Rattle.std.specs.Prelude.{◌≡◌};
 ghost use Rattle.model.specs.Answers.{result_of};
-ghost use Rattle.model.specs.Table.{emptyState, fresh, owns, ownsTask, checkEntry, enter, task, close};
+ghost use Rattle.model.specs.Table.{empty_state, fresh, owns, owns_task, check_entry, enter, task, close};
 ghost use Rattle.kernel.specs.View.{view_of};
 ghost use Rattle.kernel.specs.Form.{state_of};
 ghost use Rattle.kernel.specs.Valid.{Valid};
-ghost use Rattle.kernel.specs.Inside.{opening, firstHit};
+ghost use Rattle.kernel.specs.Inside.{opening, first_hit};
 ghost use Rattle.kernel.specs.Promises.{Begins, Enters};
 
 use crate::state::{Entered, State};
@@ -22,7 +22,7 @@ use tasks::state::Tasks;
 
 // Of two codes of checks the first that refuses.
 pub(crate) fn first_hit(first: i32, second: i32) -> i32
-    ensures { result ≡ firstHit first second }
+    ensures { result ≡ first_hit first second }
 {
     if first != E_OK {
         return first;
@@ -33,7 +33,7 @@ pub(crate) fn first_hit(first: i32, second: i32) -> i32
 impl State {
     // The open table with no entry.
     pub(crate) fn empty(domains: usize, unit: u32) -> State
-        ensures { result ≡ state_of (emptyState domains unit) }
+        ensures { result ≡ state_of (empty_state domains unit) }
     {
         State {
             domains,
@@ -61,7 +61,7 @@ impl State {
 
     // Whether a task may belong to a domain, and whether the verdict may be asked for it: the kernel's, or 1 to n.
     pub(crate) fn owns_task(self, domain: i32) -> bool
-        ensures { result ≡ ownsTask self.domains domain }
+        ensures { result ≡ owns_task self.domains domain }
     {
         if domain == KERNEL_DOMAIN {
             return true;
@@ -94,7 +94,7 @@ impl State {
 
     pub(crate) fn check_task(self, domain: i32, priority: u32) -> i32
         requires { Valid self }
-        ensures { result ≡ result_of (checkEntry (view_of self) (task domain priority)) }
+        ensures { result ≡ result_of (check_entry (view_of self) (task domain priority)) }
     {
         let tasks = self.tasks;
         let opening = self.opening(tasks.len(), MAX_TASKS, self.owns_task(domain));

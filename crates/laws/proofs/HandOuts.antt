@@ -5,31 +5,31 @@ use mathlib.Core.Option.{none}
 use Prim.Native.Nat.{ℕ, ◌+◌, ◌<◌}
 use lib.IntN.{ℤ}
 use lib.ListN.{length}
-use Rattle.itron.specs.Codes.{okNumber}
+use Rattle.itron.specs.Codes.{ok_number}
 use Rattle.model.specs.Answers.{result_of}
-use Rattle.model.specs.Images.{Image, handOut, handedBytes}
+use Rattle.model.specs.Images.{Image, hand_out, handed_bytes}
 use Rattle.model.proofs.Verdict.{GrantedAt}
-use Rattle.model.proofs.Images.{EmptyUnlessOk, empty-exactly, HandedOut, handed-only, handed-readable}
+use Rattle.model.proofs.Images.{EmptyUnlessOk, empty_exactly, HandedOut, handed_only, handed_readable}
 use Rattle.kernel.specs.declared.state.State.{State}
 use Rattle.kernel.specs.View.{view_of}
 use Rattle.kernel.proofs.Building.{passed_none}
 
 module _ (s : State) (d : ℤ) (base size : ℕ) (flash ram : Image) (code : ℤ) (part : List ℕ) where
-  module _ (c : code ≡ result_of (handOut (view_of s) d base size flash ram)) (p : part ≡ handedBytes (view_of s) d base size flash ram) where
+  module _ (c : code ≡ result_of (hand_out (view_of s) d base size flash ram)) (p : part ≡ handed_bytes (view_of s) d base size flash ram) where
     -- the part is empty exactly if the code is not E_OK
-    pub part-empty-exactly : EmptyUnlessOk code part
-    part-empty-exactly =
-        let e = empty-exactly (view_of s) d base size flash ram in
+    pub part_empty_exactly : EmptyUnlessOk code part
+    part_empty_exactly =
+        let e = empty_exactly (view_of s) d base size flash ram in
         record { empty = λ f. p ∙ e.empty (λ k. f (c ∙ k)); filled = λ k z. e.filled (sym c ∙ k) (sym p ∙ z) }
 
-    module _ (o : code ≡ okNumber) where
-      granted : handOut (view_of s) d base size flash ram ≡ none
-      granted = passed_none (handOut (view_of s) d base size flash ram) code c o
+    module _ (o : code ≡ ok_number) where
+      granted : hand_out (view_of s) d base size flash ram ≡ none
+      granted = passed_none (hand_out (view_of s) d base size flash ram) code c o
 
       -- "If the verdict allows reading, hand back that part of the image in which the area lies, just the area"
-      pub part-handed : HandedOut (view_of s) d base size flash ram part
-      part-handed = subst (λ (l : List ℕ). HandedOut (view_of s) d base size flash ram l) (sym p) (handed-only (view_of s) d base size flash ram granted)
+      pub part_handed : HandedOut (view_of s) d base size flash ram part
+      part_handed = subst (λ (l : List ℕ). HandedOut (view_of s) d base size flash ram l) (sym p) (handed_only (view_of s) d base size flash ram granted)
 
       -- each of its bytes is at an address of a region that the domain may read
-      pub part-readable : (k : ℕ) → k < length part → GrantedAt (view_of s).fixed.regions d 2 (base + k)
-      part-readable k h = handed-readable (view_of s) d base size flash ram granted k (subst (λ (l : List ℕ). k < length l) p h)
+      pub part_readable : (k : ℕ) → k < length part → GrantedAt (view_of s).fixed.regions d 2 (base + k)
+      part_readable k h = handed_readable (view_of s) d base size flash ram granted k (subst (λ (l : List ℕ). k < length l) p h)

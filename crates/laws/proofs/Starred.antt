@@ -5,24 +5,24 @@ use lib.IntN.{pos}
 use Rattle.access.specs.Patterns.{admitted}
 use Rattle.model.specs.State.{State}
 use Rattle.model.specs.Table.{Entry, enter, fresh, close}
-use Rattle.model.specs.Units.{unitOk}
-use Rattle.model.specs.Regions.{inChain, fromHolder, judge}
+use Rattle.model.specs.Units.{unit_ok}
+use Rattle.model.specs.Regions.{in_chain, from_holder, judge}
 use Rattle.model.specs.Verdict.{verdict}
 use Rattle.model.specs.Rooms.{check}
 use Rattle.model.specs.Calls.{step}
 use Rattle.model.specs.Demand3.{JustClosed}
-use Rattle.laws.specs.Starred.{Step, unit, entries, enterAll, bench, run, starred}
-use Rattle.laws.proofs.Runs.{Idle, idle-enter, idle-fresh, idle-closed}
+use Rattle.laws.specs.Starred.{Step, unit, entries, enter_all, bench, run, starred}
+use Rattle.laws.proofs.Runs.{Idle, idle_enter, idle_fresh, idle_closed}
 
-pub starred-runs : run bench (map (λ (x : Step). x.item) starred) ≡ map (λ (x : Step). x.result) starred
-unfolding run bench step check admitted enter fresh unitOk close verdict judge fromHolder inChain
-starred-runs = refl
+pub starred_runs : run bench (map (λ (x : Step). x.item) starred) ≡ map (λ (x : Step). x.result) starred
+unfolding run bench step check admitted enter fresh unit_ok close verdict judge from_holder in_chain
+starred_runs = refl
 
 -- in this table nobody waits and nothing is buffered
-idle-all : (s : State) (l : List Entry) → Idle s → Idle (enterAll s l)
-idle-all s [] k = k
-idle-all s (i ∷ l) k = idle-all (enter s i).state l (idle-enter s i k)
+idle_all : (s : State) (l : List Entry) → Idle s → Idle (enter_all s l)
+idle_all s [] k = k
+idle_all s (i ∷ l) k = idle_all (enter s i).state l (idle_enter s i k)
 
-pub bench-just-closed : JustClosed bench
+pub bench_just_closed : JustClosed bench
 unfolding bench
-bench-just-closed = idle-closed (enterAll (fresh (pos 2) unit).state entries) (idle-all (fresh (pos 2) unit).state entries (idle-fresh (pos 2) unit))
+bench_just_closed = idle_closed (enter_all (fresh (pos 2) unit).state entries) (idle_all (fresh (pos 2) unit).state entries (idle_fresh (pos 2) unit))

@@ -1,7 +1,7 @@
 -- What is claimed of every run of the program. Definitions only.
 use Rattle.std.specs.Prelude.{◌≤◌, ◌≡◌, List, ◌∷◌, ◌++◌, map, pos, neg_ℤ, length, drop}
 use Rattle.model.specs.State.{Place, Waiter}
-use Rattle.model.specs.Waits.{waitersAt}
+use Rattle.model.specs.Waits.{waiters_at}
 use Rattle.model.specs.Calls.{Call}
 use Rattle.model.specs.Lists.{total}
 use Rattle.model.specs.History.{event, after, history}
@@ -13,7 +13,7 @@ use Rattle.kernel.specs.declared.state.State.{State}
 use Rattle.kernel.specs.declared.state.Answer.{Answer}
 use Rattle.kernel.specs.View.{view_of}
 use Rattle.kernel.specs.Promises.{Does}
-use Rattle.laws.specs.Runs.{Built, taken, Said, saidIn, Ran}
+use Rattle.laws.specs.Runs.{Built, taken, Said, said_in, Ran}
 
 -- demand 3 of a run from s₀ by the calls cs to s with the answers l
 pub record Whole (s₀ s : State) (cs : List Call) (l : List Said) : Type 0 where
@@ -22,13 +22,13 @@ pub record Whole (s₀ s : State) (cs : List Call) (l : List Said) : Type 0 wher
   -- that state is the one after the history
   pub state : view_of s ≡ after (view_of s₀) cs
   -- and the history's answers are those that the program gave
-  pub answers : l ≡ map saidIn (history (view_of s₀) cs)
+  pub answers : l ≡ map said_in (history (view_of s₀) cs)
 
 -- taking turns: e waits at p in the state s₁ with the tasks `ahead` before it
 pub record TakesTurns (s₁ : State) (p : Place) (e : Waiter) (ahead : List Waiter) : Type 0 where
   -- while no more than k = length ahead calls of the opposite kind were accepted, it waits, with as many fewer ahead
   pub still : (cs : List Call) (s : State) (l : List Said) → Ran s₁ cs s l → total (serves p) (history (view_of s₁) cs) ≤ length ahead
-      → (m : List Waiter) × (waitersAt (view_of s) p ≡ drop (total (serves p) (history (view_of s₁) cs)) ahead ++ e ∷ m)
+      → (m : List Waiter) × (waiters_at (view_of s) p ≡ drop (total (serves p) (history (view_of s₁) cs)) ahead ++ e ∷ m)
   -- the (k+1)th releases it
   pub served : (cs : List Call) (s : State) (l : List Said) → Ran s₁ cs s l → total (serves p) (history (view_of s₁) cs) ≡ length ahead
       → (c : Call) (r : Answer) → Does s c r → serves p (event (view_of s) c) ≡ 1 → r.released.task ≡ e.task

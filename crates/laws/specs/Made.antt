@@ -1,7 +1,7 @@
 -- The starred list made by the program: its operations, one after the other, each by its promise. Definitions only.
 use Rattle.std.specs.Prelude.{ℕ, ◌≡◌, List, [], ◌∷◌, ℤ, pos, length, get_or}
-use Rattle.model.specs.State.{semAt, queueAt}
-use Rattle.model.specs.Answers.{outcomeOf, releasedOf, result_of}
+use Rattle.model.specs.State.{sem_at, queue_at}
+use Rattle.model.specs.Answers.{outcome_of, released_of, result_of}
 use Rattle.model.specs.Table.{Entry, enter}
 use Rattle.model.specs.Verdict.{verdict}
 use Rattle.model.specs.Calls.{Op, call}
@@ -12,7 +12,7 @@ use Rattle.kernel.specs.declared.state.Answer.{Answer}
 use Rattle.kernel.specs.declared.state.Entered.{Entered}
 use Rattle.kernel.specs.View.{view_of}
 use Rattle.kernel.specs.Promises.{Enters, Does}
-use Rattle.laws.specs.Runs.{saidBy}
+use Rattle.laws.specs.Runs.{said_by}
 use Rattle.laws.specs.Starred.{Item, restart, does, count, buffer, asks, Result, began, says, counts, buffers, finds}
 
 -- the entries of a list, made one after the other: from a state, to a state
@@ -29,23 +29,23 @@ pub data Shown : Type 0 where
   judged : ℤ → Shown
 
 -- what is due, as the program shows it
-abbrev pub shownOf : Result → Shown
-shownOf began = restarted
-shownOf (says c w rs) = answered (record { outcome = outcomeOf c; word = w; released = releasedOf rs })
-shownOf (counts n) = counted n
-shownOf (buffers b) = buffered b
-shownOf (finds o) = judged (result_of o)
+abbrev pub shown_of : Result → Shown
+shown_of began = restarted
+shown_of (says c w rs) = answered (record { outcome = outcome_of c; word = w; released = released_of rs })
+shown_of (counts n) = counted n
+shown_of (buffers b) = buffered b
+shown_of (finds o) = judged (result_of o)
 
 -- the items of a list, made one after the other from the state s on, `table` being the closed table: what each shows
 pub data Makes (table : State) : State → List Item → List Shown → Type 0 where
   end : (s : State) → Makes table s [] []
   restarts : (s : State) (l : List Item) (rs : List Shown) → Makes table table l rs → Makes table s (restart ∷ l) (restarted ∷ rs)
   calls : (s : State) (t : ℕ) (op : Op) (r : Answer) → Does s (call (pos t) op) r → (l : List Item) (rs : List Shown) → Makes table r.state l rs
-      → Makes table s (does t op ∷ l) (answered (saidBy r).reply ∷ rs)
+      → Makes table s (does t op ∷ l) (answered (said_by r).reply ∷ rs)
   -- the query `semaphore` tells the record
-  looks : (s : State) (i : ℕ) (x : Sem) → x ≡ semAt (view_of s) i → (l : List Item) (rs : List Shown) → Makes table s l rs → Makes table s (count i ∷ l) (counted x.count ∷ rs)
+  looks : (s : State) (i : ℕ) (x : Sem) → x ≡ sem_at (view_of s) i → (l : List Item) (rs : List Shown) → Makes table s l rs → Makes table s (count i ∷ l) (counted x.count ∷ rs)
   -- as many words as the query `queue` counts, each the one that the query `word` tells
-  reads : (s : State) (q : ℕ) (b : List ℕ) → length b ≡ length (queueAt (view_of s) q).buffer → ((k : ℕ) → get_or b k 0 ≡ get_or (queueAt (view_of s) q).buffer k 0)
+  reads : (s : State) (q : ℕ) (b : List ℕ) → length b ≡ length (queue_at (view_of s) q).buffer → ((k : ℕ) → get_or b k 0 ≡ get_or (queue_at (view_of s) q).buffer k 0)
       → (l : List Item) (rs : List Shown) → Makes table s l rs → Makes table s (buffer q ∷ l) (buffered b ∷ rs)
   -- `prb_mem` gives the number
   judges : (s : State) (d b z w : ℕ) (r : ℤ) → r ≡ result_of (verdict (view_of s) (pos d) b z w) → (l : List Item) (rs : List Shown) → Makes table s l rs

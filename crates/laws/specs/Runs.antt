@@ -1,6 +1,6 @@
 -- Runs of the program: building the table, closing it, and a list of calls, each on the state that the one before gave. Definitions only.
 use Rattle.std.specs.Prelude.{ℕ, ◌≡◌, true, List, [], ◌∷◌, ◌++◌, ℤ}
-use Rattle.model.specs.Answers.{replyOf, whenOk}
+use Rattle.model.specs.Answers.{reply_of, when_ok}
 use Rattle.model.specs.Table.{Entry, enter}
 use Rattle.model.specs.Calls.{Call, asks}
 use Rattle.model.specs.History.{Event}
@@ -20,22 +20,22 @@ pub data Built : State → Type 0 where
 -- the entries that it took, in order: those answered E_OK
 abbrev pub taken : {s : State} → Built s → List Entry
 taken (begun n unit r g) = []
-taken (entered s b i r g) = taken b ++ whenOk [] (i ∷ []) (enter (view_of s) i).answer.code
+taken (entered s b i r g) = taken b ++ when_ok [] (i ∷ []) (enter (view_of s) i).answer.code
 
 -- what an answer says: outcome, word and released task, and what a refer tells
 pub record Said : Type 0 where
   pub reply : Reply
   pub info : Info
 
-abbrev pub saidBy : Answer → Said
-saidBy r = record { reply = record { outcome = r.outcome; word = r.word; released = r.released }; info = r.info }
+abbrev pub said_by : Answer → Said
+said_by r = record { reply = record { outcome = r.outcome; word = r.word; released = r.released }; info = r.info }
 
 -- the model's answer, as the program says it
-abbrev pub saidIn : Event → Said
-saidIn e = record { reply = replyOf e.answer; info = e.answer.info }
+abbrev pub said_in : Event → Said
+said_in e = record { reply = reply_of e.answer; info = e.answer.info }
 
 -- from the state s₀: calls, the newest first, the state after them and what each answered
 pub data Ran (s₀ : State) : List Call → State → List Said → Type 0 where
   start : Ran s₀ [] s₀ []
-  calls : (cs : List Call) (s : State) (l : List Said) → Ran s₀ cs s l → (c : Call) (r : Answer) → Does s c r → Ran s₀ (c ∷ cs) r.state (saidBy r ∷ l)
-  refers : (cs : List Call) (s : State) (l : List Said) → Ran s₀ cs s l → (c : Call) → (asks c.op).isRefer ≡ true → (r : Answer) → Tells s c r → Ran s₀ (c ∷ cs) r.state (saidBy r ∷ l)
+  calls : (cs : List Call) (s : State) (l : List Said) → Ran s₀ cs s l → (c : Call) (r : Answer) → Does s c r → Ran s₀ (c ∷ cs) r.state (said_by r ∷ l)
+  refers : (cs : List Call) (s : State) (l : List Said) → Ran s₀ cs s l → (c : Call) → (asks c.op).is_refer ≡ true → (r : Answer) → Tells s c r → Ran s₀ (c ∷ cs) r.state (said_by r ∷ l)

@@ -2,5 +2,5 @@
 use Rattle.std.specs.Prelude.{ℕ, List, take}
 use Rattle.levels.specs.declared.state.Levels.{Levels}
 
-unfoldable pub levelsOf : ℕ → Levels → List ℕ
-levelsOf n x = take n x.entries
+unfoldable pub levels_of : ℕ → Levels → List ℕ
+levels_of n x = take n x.entries

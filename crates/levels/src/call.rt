@@ -1,7 +1,7 @@
 // Entering and leaving an extended service call.
 ghost use Rattle.std.specs.Prelude.{◌≡◌, ◌<◌};
-ghost use Rattle.itron.specs.Limits.{maxTasks};
-ghost use Rattle.levels.specs.Effects.{changedOf, acted};
+ghost use Rattle.itron.specs.Limits.{max_tasks};
+ghost use Rattle.levels.specs.Effects.{changed_of, acted};
 
 use crate::state::Levels;
 use itron::code::{E_CTX, E_OK, E_SYS};
@@ -24,7 +24,7 @@ pub struct Effect {
 
 // Entering adds one, unless the level is the highest; leaving takes one off, unless it is 0.
 pub(crate) fn change(call: ExtendedCall, level: u8) -> Changed
-    ensures { result ≡ changedOf call level }
+    ensures { result ≡ changed_of call level }
 {
     match call {
         ExtendedCall::Enter => {
@@ -44,7 +44,7 @@ pub(crate) fn change(call: ExtendedCall, level: u8) -> Changed
 
 // A call of the ready task with an index.
 pub fn act(levels: Levels, task: usize, call: ExtendedCall) -> Effect
-    requires { task < maxTasks }
+    requires { task < max_tasks }
     ensures { result ≡ acted levels task call }
 {
     match change(call, levels.level(task)) {

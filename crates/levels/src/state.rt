@@ -1,7 +1,7 @@
 // All levels.
 ghost use Rattle.std.specs.Prelude.{◌≡◌, [], ◌<◌, get_or};
-ghost use Rattle.itron.specs.Limits.{maxTasks};
-ghost use Rattle.levels.specs.Form.{levelsAs, withLevel};
+ghost use Rattle.itron.specs.Limits.{max_tasks};
+ghost use Rattle.levels.specs.Form.{levels_as, with_level};
 
 use itron::limit::MAX_TASKS;
 
@@ -14,7 +14,7 @@ pub struct Levels {
 impl Levels {
     // Outside every extended service call.
     pub fn outside() -> Levels
-        ensures { result ≡ levelsAs [] }
+        ensures { result ≡ levels_as [] }
     {
         Levels {
             entries: [0; MAX_TASKS],
@@ -23,7 +23,7 @@ impl Levels {
 
     // The level of the task with an index.
     pub fn level(self, task: usize) -> u8
-        requires { task < maxTasks }
+        requires { task < max_tasks }
         ensures { result ≡ get_or self.entries task 0 }
     {
         self.entries[task]
@@ -31,8 +31,8 @@ impl Levels {
 
     // That task has another.
     pub(crate) fn with_level(mut self, task: usize, level: u8) -> Levels
-        requires { task < maxTasks }
-        ensures { result ≡ withLevel self task level }
+        requires { task < max_tasks }
+        ensures { result ≡ with_level self task level }
     {
         self.entries[task] = level;
         self

@@ -4,7 +4,7 @@ use Rattle.model.specs.State.{State}
 use Rattle.model.specs.Calls.{Call}
 use Rattle.model.specs.History.{after, history}
 use Rattle.model.specs.Demand3.{Demand3, JustClosed}
-use Rattle.model.proofs.Steps.{waiters-are}
+use Rattle.model.proofs.Steps.{waiters_are_lem}
 use Rattle.model.proofs.LevelClaims.{tally}
 use Rattle.model.proofs.SemaphoreClaims.{counted}
 use Rattle.model.proofs.QueueClaims.{carried}
@@ -15,6 +15,6 @@ demand3 s₀ j cs = record {
   queues = carried s₀ j cs;
   semaphores = counted s₀ cs;
   levels = (tally s₀ j cs).leveled;
-  waitersAre = waiters-are s₀ j.noWaits cs;
-  releases = releases s₀ j.noWaits cs;
+  waiters_are = waiters_are_lem s₀ j.no_waits cs;
+  releases = releases s₀ j.no_waits cs;
 }

@@ -5,15 +5,15 @@ use mathlib.Core.Option.{none, some}
 use Prim.Native.Nat.{ℕ, ◌^◌}
 use lib.Dec.{eqb}
 use lib.IntN.{ℤ, pos, negsuc, neg_ℤ}
-use Rattle.itron.specs.Codes.{Err, eSys, eRsatr, ePar, eId, eCtx, eMacv, eOacv, eIluse, eNomem, eNoid, eObj, eNoexs, eQovr, eTmout, Code, ok, waiting, error, number_of}
-use Rattle.itron.specs.Limits.{addressEnd}
+use Rattle.itron.specs.Codes.{Err, e_sys, e_rsatr, e_par, e_id, e_ctx, e_macv, e_oacv, e_iluse, e_nomem, e_noid, e_obj, e_noexs, e_qovr, e_tmout, Code, ok, waiting, error, number_of}
+use Rattle.itron.specs.Limits.{address_end}
 use Rattle.model.specs.declared.Outcome.{Outcome}
 use Rattle.model.specs.declared.Outcome.TheVariants as Outcome
-use Rattle.model.specs.Answers.{outcomeOf, code_of, result_of}
+use Rattle.model.specs.Answers.{outcome_of, code_of, result_of}
 
 -- a code is shown as the number z: in a call's answer, in that of fresh, an entry, closing or a refer
 pub record Shown (c : Code) (z : ℤ) : Type 0 where
-  pub answered : outcomeOf c ≡ Outcome.Code z
+  pub answered : outcome_of c ≡ Outcome.Code z
   pub entered : code_of c ≡ z
 
 -- a refusal is shown as -n, by a verdict too
@@ -23,8 +23,8 @@ pub record Numbered (e : Err) (n : ℕ) : Type 0 where
 
 abbrev Listed : Type 0
 Listed =
-    Numbered eSys 5 × (Numbered eRsatr 11 × (Numbered ePar 17 × (Numbered eId 18 × (Numbered eCtx 25 × (Numbered eMacv 26 × (Numbered eOacv 27
-    × (Numbered eIluse 28 × (Numbered eNomem 33 × (Numbered eNoid 34 × (Numbered eObj 41 × (Numbered eNoexs 42 × (Numbered eQovr 43 × Numbered eTmout 50))))))))))))
+    Numbered e_sys 5 × (Numbered e_rsatr 11 × (Numbered e_par 17 × (Numbered e_id 18 × (Numbered e_ctx 25 × (Numbered e_macv 26 × (Numbered e_oacv 27
+    × (Numbered e_iluse 28 × (Numbered e_nomem 33 × (Numbered e_noid 34 × (Numbered e_obj 41 × (Numbered e_noexs 42 × (Numbered e_qovr 43 × Numbered e_tmout 50))))))))))))
 
 plainly : {e : Err} {n : ℕ} → number_of e ≡ neg_ℤ (pos n) → Numbered e n
 plainly h = record { shown = record { answered = ap Outcome.Code h; entered = h }; judged = h }
@@ -33,58 +33,58 @@ plainly h = record { shown = record { answered = ap Outcome.Code h; entered = h 
 pub listed : Listed
 listed = (plainly refl, (plainly refl, (plainly refl, (plainly refl, (plainly refl, (plainly refl, (plainly refl, (plainly refl, (plainly refl, (plainly refl, (plainly refl, (plainly refl, (plainly refl, plainly refl)))))))))))))
 
-pub done-is-0 : Shown ok (pos 0) × (result_of none ≡ pos 0)
-done-is-0 = (record { answered = refl; entered = refl }, refl)
+pub done_is_0 : Shown ok (pos 0) × (result_of none ≡ pos 0)
+done_is_0 = (record { answered = refl; entered = refl }, refl)
 
 -- "A refusal is a negative number"
-pub refusal-negative : (e : Err) → (k : ℕ) × (number_of e ≡ negsuc k)
-refusal-negative eSys = (_, refl)
-refusal-negative eRsatr = (_, refl)
-refusal-negative ePar = (_, refl)
-refusal-negative eId = (_, refl)
-refusal-negative eCtx = (_, refl)
-refusal-negative eMacv = (_, refl)
-refusal-negative eOacv = (_, refl)
-refusal-negative eIluse = (_, refl)
-refusal-negative eNomem = (_, refl)
-refusal-negative eNoid = (_, refl)
-refusal-negative eObj = (_, refl)
-refusal-negative eNoexs = (_, refl)
-refusal-negative eQovr = (_, refl)
-refusal-negative eTmout = (_, refl)
+pub refusal_negative : (e : Err) → (k : ℕ) × (number_of e ≡ negsuc k)
+refusal_negative e_sys = (_, refl)
+refusal_negative e_rsatr = (_, refl)
+refusal_negative e_par = (_, refl)
+refusal_negative e_id = (_, refl)
+refusal_negative e_ctx = (_, refl)
+refusal_negative e_macv = (_, refl)
+refusal_negative e_oacv = (_, refl)
+refusal_negative e_iluse = (_, refl)
+refusal_negative e_nomem = (_, refl)
+refusal_negative e_noid = (_, refl)
+refusal_negative e_obj = (_, refl)
+refusal_negative e_noexs = (_, refl)
+refusal_negative e_qovr = (_, refl)
+refusal_negative e_tmout = (_, refl)
 
 -- no two answers look alike: not two refusals, not a refusal and E_OK, not "waiting" and a number
-abbrev refusalAt : ℕ → Err
-refusalAt k =
-    cond (eqb k 4) eSys (cond (eqb k 10) eRsatr (cond (eqb k 16) ePar (cond (eqb k 17) eId (cond (eqb k 24) eCtx (cond (eqb k 25) eMacv (cond (eqb k 26) eOacv
-    (cond (eqb k 27) eIluse (cond (eqb k 32) eNomem (cond (eqb k 33) eNoid (cond (eqb k 40) eObj (cond (eqb k 41) eNoexs (cond (eqb k 42) eQovr eTmout))))))))))))
+abbrev refusal_at : ℕ → Err
+refusal_at k =
+    cond (eqb k 4) e_sys (cond (eqb k 10) e_rsatr (cond (eqb k 16) e_par (cond (eqb k 17) e_id (cond (eqb k 24) e_ctx (cond (eqb k 25) e_macv (cond (eqb k 26) e_oacv
+    (cond (eqb k 27) e_iluse (cond (eqb k 32) e_nomem (cond (eqb k 33) e_noid (cond (eqb k 40) e_obj (cond (eqb k 41) e_noexs (cond (eqb k 42) e_qovr e_tmout))))))))))))
 
 abbrev meant : Outcome → Code
 meant (Outcome.Code (pos n)) = ok
-meant (Outcome.Code (negsuc k)) = error (refusalAt k)
+meant (Outcome.Code (negsuc k)) = error (refusal_at k)
 meant Outcome.Waiting = waiting
 
-read_back : (c : Code) → meant (outcomeOf c) ≡ c
+read_back : (c : Code) → meant (outcome_of c) ≡ c
 read_back ok = refl
 read_back waiting = refl
-read_back (error eSys) = refl
-read_back (error eRsatr) = refl
-read_back (error ePar) = refl
-read_back (error eId) = refl
-read_back (error eCtx) = refl
-read_back (error eMacv) = refl
-read_back (error eOacv) = refl
-read_back (error eIluse) = refl
-read_back (error eNomem) = refl
-read_back (error eNoid) = refl
-read_back (error eObj) = refl
-read_back (error eNoexs) = refl
-read_back (error eQovr) = refl
-read_back (error eTmout) = refl
+read_back (error e_sys) = refl
+read_back (error e_rsatr) = refl
+read_back (error e_par) = refl
+read_back (error e_id) = refl
+read_back (error e_ctx) = refl
+read_back (error e_macv) = refl
+read_back (error e_oacv) = refl
+read_back (error e_iluse) = refl
+read_back (error e_nomem) = refl
+read_back (error e_noid) = refl
+read_back (error e_obj) = refl
+read_back (error e_noexs) = refl
+read_back (error e_qovr) = refl
+read_back (error e_tmout) = refl
 
-pub apart : (a b : Code) → outcomeOf a ≡ outcomeOf b → a ≡ b
+pub apart : (a b : Code) → outcome_of a ≡ outcome_of b → a ≡ b
 apart a b h = sym (read_back a) ∙ ap meant h ∙ read_back b
 
 -- "2^32"
-pub address-end : addressEnd ≡ 2 ^ 32
-address-end = refl
+pub address_end_lem : address_end ≡ 2 ^ 32
+address_end_lem = refl

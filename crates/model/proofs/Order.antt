@@ -8,12 +8,12 @@ use native.Mathlib.Omega.{arith}
 use lib.ListN.{length}
 use lib.Dec.{eqb, leb}
 use borrow.Author.Tests.{leb-true, leb-false}
-use Rattle.model.specs.Lists.{at, keep, consIf, insert, arrange, All, Some}
-use Rattle.model.specs.State.{TaskEntry, Waiter, noTask}
-use Rattle.model.specs.Waits.{isOther, absent, leave, standing}
+use Rattle.model.specs.Lists.{at, keep, cons_if, insert, arrange, All, Some}
+use Rattle.model.specs.State.{TaskEntry, Waiter, no_task}
+use Rattle.model.specs.Waits.{is_other, absent, leave, standing}
 use Rattle.model.specs.QueueClaims.{Rising}
-use Rattle.model.proofs.Lists.{eq_of, cons-ne, and_left, and_right, both, all_keep, all_weaker, isOther-sym, keep-head, Distinct}
-use Rattle.model.proofs.Tests.{holds, fails, le-tells}
+use Rattle.model.proofs.Lists.{eq_of, cons_ne, and_left, and_right, both, all_keep, all_weaker, is_other_sym, keep_head, Distinct}
+use Rattle.model.proofs.Tests.{holds, fails, le_tells}
 
 module _ {A : Type 0} (rank : A → ℕ) where
   -- the lowest rank first
@@ -30,9 +30,9 @@ module _ {A : Type 0} (rank : A → ℕ) where
       go true r = (h, k)
       go false r = (k.0, r)
 
-  some-insert : (P : A → Type 0) (x : A) (l : List A) → Some P (insert rank x l) → Some P (x ∷ l)
-  some-insert P x [] h = h
-  some-insert P x (y ∷ l) h = go (leb (rank x) (rank y)) (some-insert P x l) h
+  some_insert : (P : A → Type 0) (x : A) (l : List A) → Some P (insert rank x l) → Some P (x ∷ l)
+  some_insert P x [] h = h
+  some_insert P x (y ∷ l) h = go (leb (rank x) (rank y)) (some_insert P x l) h
     where
       behind : Some P (x ∷ l) → Some P (x ∷ (y ∷ l))
       behind (inl z) = inl z
@@ -43,9 +43,9 @@ module _ {A : Type 0} (rank : A → ℕ) where
       go false ih (inl z) = inr (inl z)
       go false ih (inr z) = behind (ih z)
 
-  length-insert : (x : A) (l : List A) → length (insert rank x l) ≡ suc (length l)
-  length-insert x [] = refl
-  length-insert x (y ∷ l) = go (leb (rank x) (rank y)) (length-insert x l)
+  length_insert : (x : A) (l : List A) → length (insert rank x l) ≡ suc (length l)
+  length_insert x [] = refl
+  length_insert x (y ∷ l) = go (leb (rank x) (rank y)) (length_insert x l)
     where
       go : (b : Bool) → length (insert rank x l) ≡ suc (length l) → length (cond b (x ∷ (y ∷ l)) (y ∷ insert rank x l)) ≡ suc (suc (length l))
       go true e = refl
@@ -55,34 +55,34 @@ module _ {A : Type 0} (rank : A → ℕ) where
   all_above : (m n : ℕ) (l : List A) → m ≤ n → All (λ (y : A). n ≤ rank y) l → All (λ (y : A). m ≤ rank y) l
   all_above m n l h k = all_weaker (λ (y : A). n ≤ rank y) (λ (y : A). m ≤ rank y) (λ y z. omega (arith, h, z)) l k
 
-  ranked-insert : (x : A) (l : List A) → Ranked l → Ranked (insert rank x l)
-  ranked-insert x [] o = (tt, tt)
-  ranked-insert x (y ∷ l) o = go (leb (rank x) (rank y)) refl (ranked-insert x l o.1)
+  ranked_insert : (x : A) (l : List A) → Ranked l → Ranked (insert rank x l)
+  ranked_insert x [] o = (tt, tt)
+  ranked_insert x (y ∷ l) o = go (leb (rank x) (rank y)) refl (ranked_insert x l o.1)
     where
       go : (b : Bool) → leb (rank x) (rank y) ≡ b → Ranked (insert rank x l) → Ranked (cond b (x ∷ (y ∷ l)) (y ∷ insert rank x l))
       go true e r = let z = leb-true (rank x) (rank y) e in ((z, all_above (rank x) (rank y) l z o.0), o)
       go false e r = (all_insert (λ (z : A). rank y ≤ rank z) x l (omega (arith, leb-false (rank x) (rank y) e)) o.0, r)
 
   -- ahead of those that rank no lower
-  insert-front : (x : A) (l : List A) → All (λ (y : A). rank x ≤ rank y) l → insert rank x l ≡ x ∷ l
-  insert-front x [] k = refl
-  insert-front x (y ∷ l) k = ap (λ (b : Bool). cond b (x ∷ (y ∷ l)) (y ∷ insert rank x l)) (holds (le-tells (rank x) (rank y)) k.0)
+  insert_front : (x : A) (l : List A) → All (λ (y : A). rank x ≤ rank y) l → insert rank x l ≡ x ∷ l
+  insert_front x [] k = refl
+  insert_front x (y ∷ l) k = ap (λ (b : Bool). cond b (x ∷ (y ∷ l)) (y ∷ insert rank x l)) (holds (le_tells (rank x) (rank y)) k.0)
 
-  abbrev insertIf : Bool → A → List A → List A
-  insertIf b x l = cond b (insert rank x l) l
+  abbrev insert_if : Bool → A → List A → List A
+  insert_if b x l = cond b (insert rank x l) l
 
-  keep-insert : (p : A → Bool) (x : A) (l : List A) → Ranked l → keep p (insert rank x l) ≡ insertIf (p x) x (keep p l)
-  keep-insert p x [] o = go (p x)
+  keep_insert : (p : A → Bool) (x : A) (l : List A) → Ranked l → keep p (insert rank x l) ≡ insert_if (p x) x (keep p l)
+  keep_insert p x [] o = go (p x)
     where
-      go : (b : Bool) → consIf b x [] ≡ insertIf b x []
+      go : (b : Bool) → cons_if b x [] ≡ insert_if b x []
       go true = refl
       go false = refl
-  keep-insert p x (y ∷ l) o = go (leb (rank x) (rank y)) (p x) (p y) refl refl refl (keep-insert p x l o.1)
+  keep_insert p x (y ∷ l) o = go (leb (rank x) (rank y)) (p x) (p y) refl refl refl (keep_insert p x l o.1)
     where
-      go : (c b d : Bool) → leb (rank x) (rank y) ≡ c → p x ≡ b → p y ≡ d → keep p (insert rank x l) ≡ insertIf (p x) x (keep p l)
-          → keep p (cond c (x ∷ (y ∷ l)) (y ∷ insert rank x l)) ≡ insertIf b x (consIf d y (keep p l))
+      go : (c b d : Bool) → leb (rank x) (rank y) ≡ c → p x ≡ b → p y ≡ d → keep p (insert rank x l) ≡ insert_if (p x) x (keep p l)
+          → keep p (cond c (x ∷ (y ∷ l)) (y ∷ insert rank x l)) ≡ insert_if b x (cons_if d y (keep p l))
       go true true true e g f ih = rw (g, f, e) refl
-      go true true false e g f ih = rw (g, f) (sym (insert-front x (keep p l) (all_keep _ p l (all_above (rank x) (rank y) l (leb-true (rank x) (rank y) e) o.0))))
+      go true true false e g f ih = rw (g, f) (sym (insert_front x (keep p l) (all_keep _ p l (all_above (rank x) (rank y) l (leb-true (rank x) (rank y) e) o.0))))
       go true false d e g f ih = rw (g, f) refl
       go false true true e g f ih = rw (f, e) (ap (λ (z : List A). y ∷ z) (rw g at ih))
       go false true false e g f ih = rw f (rw g at ih)
@@ -90,17 +90,17 @@ module _ {A : Type 0} (rank : A → ℕ) where
       go false false false e g f ih = rw f (rw g at ih)
 
   -- ---- a list arranged
-  pub ranked-arrange : (l : List A) → Ranked (arrange rank l)
-  ranked-arrange [] = tt
-  ranked-arrange (x ∷ l) = ranked-insert x (arrange rank l) (ranked-arrange l)
+  pub ranked_arrange : (l : List A) → Ranked (arrange rank l)
+  ranked_arrange [] = tt
+  ranked_arrange (x ∷ l) = ranked_insert x (arrange rank l) (ranked_arrange l)
 
-  all-arrange : (P : A → Type 0) (l : List A) → All P l → All P (arrange rank l)
-  all-arrange P [] h = tt
-  all-arrange P (x ∷ l) h = all_insert P x (arrange rank l) h.0 (all-arrange P l h.1)
+  all_arrange : (P : A → Type 0) (l : List A) → All P l → All P (arrange rank l)
+  all_arrange P [] h = tt
+  all_arrange P (x ∷ l) h = all_insert P x (arrange rank l) h.0 (all_arrange P l h.1)
 
-  all-arranged : (P : A → Type 0) (l : List A) → All P (arrange rank l) → All P l
-  all-arranged P [] h = tt
-  all-arranged P (x ∷ l) h = let k = put_in x (arrange rank l) h in (k.0, all-arranged P l k.1)
+  all_arranged : (P : A → Type 0) (l : List A) → All P (arrange rank l) → All P l
+  all_arranged P [] h = tt
+  all_arranged P (x ∷ l) h = let k = put_in x (arrange rank l) h in (k.0, all_arranged P l k.1)
     where
       put_in : (x : A) (l : List A) → All P (insert rank x l) → P x × All P l
       put_in x [] h = h
@@ -110,51 +110,51 @@ module _ {A : Type 0} (rank : A → ℕ) where
           go true k i = k
           go false k i = let r = i k.1 in (r.0, (k.0, r.1))
 
-  some-arrange : (P : A → Type 0) (l : List A) → Some P (arrange rank l) → Some P l
-  some-arrange P [] h = h
-  some-arrange P (x ∷ l) h = go (some-arrange P l) (some-insert P x (arrange rank l) h)
+  some_arrange : (P : A → Type 0) (l : List A) → Some P (arrange rank l) → Some P l
+  some_arrange P [] h = h
+  some_arrange P (x ∷ l) h = go (some_arrange P l) (some_insert P x (arrange rank l) h)
     where
       go : (Some P (arrange rank l) → Some P l) → Some P (x ∷ arrange rank l) → Some P (x ∷ l)
       go ih (inl z) = inl z
       go ih (inr z) = inr (ih z)
 
-  length-arrange : (l : List A) → length (arrange rank l) ≡ length l
-  length-arrange [] = refl
-  length-arrange (x ∷ l) = length-insert x (arrange rank l) ∙ ap suc (length-arrange l)
+  length_arrange : (l : List A) → length (arrange rank l) ≡ length l
+  length_arrange [] = refl
+  length_arrange (x ∷ l) = length_insert x (arrange rank l) ∙ ap suc (length_arrange l)
 
   -- choosing and arranging, whichever is first
-  keep-arrange : (p : A → Bool) (l : List A) → keep p (arrange rank l) ≡ arrange rank (keep p l)
-  keep-arrange p [] = refl
-  keep-arrange p (x ∷ l) = keep-insert p x (arrange rank l) (ranked-arrange l) ∙ go (p x) (keep-arrange p l)
+  keep_arrange : (p : A → Bool) (l : List A) → keep p (arrange rank l) ≡ arrange rank (keep p l)
+  keep_arrange p [] = refl
+  keep_arrange p (x ∷ l) = keep_insert p x (arrange rank l) (ranked_arrange l) ∙ go (p x) (keep_arrange p l)
     where
-      go : (b : Bool) → keep p (arrange rank l) ≡ arrange rank (keep p l) → insertIf b x (keep p (arrange rank l)) ≡ arrange rank (consIf b x (keep p l))
+      go : (b : Bool) → keep p (arrange rank l) ≡ arrange rank (keep p l) → insert_if b x (keep p (arrange rank l)) ≡ arrange rank (cons_if b x (keep p l))
       go true e = ap (insert rank x) e
       go false e = e
 
   -- elements of one rank stand in their order
-  equals-stay : (k : ℕ) (l : List A) → All (λ (x : A). rank x ≡ k) l → arrange rank l ≡ l
-  equals-stay k [] h = refl
-  equals-stay k (x ∷ l) h =
-      ap (insert rank x) (equals-stay k l h.1)
-      ∙ insert-front x l (all_weaker (λ (y : A). rank y ≡ k) (λ (y : A). rank x ≤ rank y) (λ y z. omega (arith, z, h.0)) l h.1)
+  equals_stay : (k : ℕ) (l : List A) → All (λ (x : A). rank x ≡ k) l → arrange rank l ≡ l
+  equals_stay k [] h = refl
+  equals_stay k (x ∷ l) h =
+      ap (insert rank x) (equals_stay k l h.1)
+      ∙ insert_front x l (all_weaker (λ (y : A). rank y ≡ k) (λ (y : A). rank x ≤ rank y) (λ y z. omega (arith, z, h.0)) l h.1)
 
-  kept-rank : (k : ℕ) (l : List A) → All (λ (x : A). rank x ≡ k) (keep (λ (x : A). eqb k (rank x)) l)
-  kept-rank k [] = tt
-  kept-rank k (x ∷ l) = go (eqb k (rank x)) refl (kept-rank k l)
+  kept_rank : (k : ℕ) (l : List A) → All (λ (x : A). rank x ≡ k) (keep (λ (x : A). eqb k (rank x)) l)
+  kept_rank k [] = tt
+  kept_rank k (x ∷ l) = go (eqb k (rank x)) refl (kept_rank k l)
     where
-      go : (b : Bool) → eqb k (rank x) ≡ b → All (λ (y : A). rank y ≡ k) (keep (λ (y : A). eqb k (rank y)) l) → All (λ (y : A). rank y ≡ k) (consIf b x (keep (λ (y : A). eqb k (rank y)) l))
+      go : (b : Bool) → eqb k (rank x) ≡ b → All (λ (y : A). rank y ≡ k) (keep (λ (y : A). eqb k (rank y)) l) → All (λ (y : A). rank y ≡ k) (cons_if b x (keep (λ (y : A). eqb k (rank y)) l))
       go true e r = (sym (eq_of k (rank x) e), r)
       go false e r = r
 
-  pub in-line : (k : ℕ) (l : List A) → keep (λ (x : A). eqb k (rank x)) (arrange rank l) ≡ keep (λ (x : A). eqb k (rank x)) l
-  in-line k l = keep-arrange (λ (x : A). eqb k (rank x)) l ∙ equals-stay k (keep (λ (x : A). eqb k (rank x)) l) (kept-rank k l)
+  pub in_line_lem : (k : ℕ) (l : List A) → keep (λ (x : A). eqb k (rank x)) (arrange rank l) ≡ keep (λ (x : A). eqb k (rank x)) l
+  in_line_lem k l = keep_arrange (λ (x : A). eqb k (rank x)) l ∙ equals_stay k (keep (λ (x : A). eqb k (rank x)) l) (kept_rank k l)
 
   -- first is who ranks lower than all before it in the list and no higher than all behind it
   pub heads : (l m : List A) (x : A) → All (λ (y : A). rank x < rank y) l → All (λ (y : A). rank x ≤ rank y) m → (r : List A) × (arrange rank (l ++ (x ∷ m)) ≡ x ∷ r)
-  heads [] m x h k = (arrange rank m, insert-front x (arrange rank m) (all-arrange (λ (y : A). rank x ≤ rank y) m k))
+  heads [] m x h k = (arrange rank m, insert_front x (arrange rank m) (all_arrange (λ (y : A). rank x ≤ rank y) m k))
   heads (y ∷ l) m x h k =
       let i = heads l m x h.1 k in
-      (insert rank y i.0, ap (insert rank y) i.1 ∙ ap (λ (b : Bool). cond b (y ∷ (x ∷ i.0)) (x ∷ insert rank y i.0)) (fails (le-tells (rank y) (rank x)) (λ z. omega (arith, z, h.0))))
+      (insert rank y i.0, ap (insert rank y) i.1 ∙ ap (λ (b : Bool). cond b (y ∷ (x ∷ i.0)) (x ∷ insert rank y i.0)) (fails (le_tells (rank y) (rank x)) (λ z. omega (arith, z, h.0))))
 
   -- in ranks that do not fall
   rises : (l : List A) → Ranked l → Rising (map rank l)
@@ -165,120 +165,120 @@ module _ {A : Type 0} (rank : A → ℕ) where
       each [] h = tt
       each (y ∷ l) h = (h.0, each l h.1)
 
-  rises-arranged : (l : List A) → Rising (map rank (arrange rank l))
-  rises-arranged l = rises (arrange rank l) (ranked-arrange l)
+  rises_arranged : (l : List A) → Rising (map rank (arrange rank l))
+  rises_arranged l = rises (arrange rank l) (ranked_arrange l)
 
 -- ---- each task once
 module _ (rank : Waiter → ℕ) where
-  absent-arrange : (t : ℕ) (l : List Waiter) → absent t l ≡ true → absent t (arrange rank l) ≡ true
-  absent-arrange t l h = of-all (arrange rank l) (all-arrange rank (λ (e : Waiter). isOther t e ≡ true) l (to-all l h))
+  absent_arrange : (t : ℕ) (l : List Waiter) → absent t l ≡ true → absent t (arrange rank l) ≡ true
+  absent_arrange t l h = of_all (arrange rank l) (all_arrange rank (λ (e : Waiter). is_other t e ≡ true) l (to_all l h))
     where
-      to-all : (l : List Waiter) → absent t l ≡ true → All (λ (e : Waiter). isOther t e ≡ true) l
-      to-all [] h = tt
-      to-all (e ∷ l) h = (and_left (isOther t e) (absent t l) h, to-all l (and_right (isOther t e) (absent t l) h))
+      to_all : (l : List Waiter) → absent t l ≡ true → All (λ (e : Waiter). is_other t e ≡ true) l
+      to_all [] h = tt
+      to_all (e ∷ l) h = (and_left (is_other t e) (absent t l) h, to_all l (and_right (is_other t e) (absent t l) h))
 
-      of-all : (l : List Waiter) → All (λ (e : Waiter). isOther t e ≡ true) l → absent t l ≡ true
-      of-all [] h = refl
-      of-all (e ∷ l) h = both h.0 (of-all l h.1)
+      of_all : (l : List Waiter) → All (λ (e : Waiter). is_other t e ≡ true) l → absent t l ≡ true
+      of_all [] h = refl
+      of_all (e ∷ l) h = both h.0 (of_all l h.1)
 
-  absent-insert : (t : ℕ) (x : Waiter) (l : List Waiter) → isOther t x ≡ true → absent t l ≡ true → absent t (insert rank x l) ≡ true
-  absent-insert t x [] h k = both h refl
-  absent-insert t x (y ∷ l) h k = go (leb (rank x) (rank y)) (absent-insert t x l h (and_right (isOther t y) (absent t l) k))
+  absent_insert : (t : ℕ) (x : Waiter) (l : List Waiter) → is_other t x ≡ true → absent t l ≡ true → absent t (insert rank x l) ≡ true
+  absent_insert t x [] h k = both h refl
+  absent_insert t x (y ∷ l) h k = go (leb (rank x) (rank y)) (absent_insert t x l h (and_right (is_other t y) (absent t l) k))
     where
       go : (b : Bool) → absent t (insert rank x l) ≡ true → absent t (cond b (x ∷ (y ∷ l)) (y ∷ insert rank x l)) ≡ true
       go true r = both h k
-      go false r = both (and_left (isOther t y) (absent t l) k) r
+      go false r = both (and_left (is_other t y) (absent t l) k) r
 
-  distinct-insert : (x : Waiter) (l : List Waiter) → absent x.task l ≡ true → Distinct l → Distinct (insert rank x l)
-  distinct-insert x [] h d = (refl, tt)
-  distinct-insert x (y ∷ l) h d = go (leb (rank x) (rank y)) (distinct-insert x l (and_right (isOther x.task y) (absent x.task l) h) d.1)
+  distinct_insert : (x : Waiter) (l : List Waiter) → absent x.task l ≡ true → Distinct l → Distinct (insert rank x l)
+  distinct_insert x [] h d = (refl, tt)
+  distinct_insert x (y ∷ l) h d = go (leb (rank x) (rank y)) (distinct_insert x l (and_right (is_other x.task y) (absent x.task l) h) d.1)
     where
       go : (b : Bool) → Distinct (insert rank x l) → Distinct (cond b (x ∷ (y ∷ l)) (y ∷ insert rank x l))
       go true r = (h, d)
-      go false r = (absent-insert y.task x l (isOther-sym y x ∙ and_left (isOther x.task y) (absent x.task l) h) d.0, r)
+      go false r = (absent_insert y.task x l (is_other_sym y x ∙ and_left (is_other x.task y) (absent x.task l) h) d.0, r)
 
-  distinct-arrange : (l : List Waiter) → Distinct l → Distinct (arrange rank l)
-  distinct-arrange [] d = tt
-  distinct-arrange (x ∷ l) d = distinct-insert x (arrange rank l) (absent-arrange x.task l d.0) (distinct-arrange l d.1)
+  distinct_arrange : (l : List Waiter) → Distinct l → Distinct (arrange rank l)
+  distinct_arrange [] d = tt
+  distinct_arrange (x ∷ l) d = distinct_insert x (arrange rank l) (absent_arrange x.task l d.0) (distinct_arrange l d.1)
 
 -- ---- a wait queue, in either order
-abbrev pub priorityIn : List TaskEntry → Waiter → ℕ
-priorityIn ts e = (at noTask ts e.task).priority
+abbrev pub priority_in : List TaskEntry → Waiter → ℕ
+priority_in ts e = (at no_task ts e.task).priority
 
 -- the line in which a waiter stands
-abbrev pub lineIn : Bool → List TaskEntry → Waiter → ℕ
-lineIn b ts e = cond b (priorityIn ts e) 0
+abbrev pub line_in : Bool → List TaskEntry → Waiter → ℕ
+line_in b ts e = cond b (priority_in ts e) 0
 
 -- choosing and standing, whichever is first
-standing-keep : (b : Bool) (ts : List TaskEntry) (p : Waiter → Bool) (l : List Waiter) → keep p (standing b ts l) ≡ standing b ts (keep p l)
-standing-keep true ts p l = keep-arrange (priorityIn ts) p l
-standing-keep false ts p l = refl
+standing_keep : (b : Bool) (ts : List TaskEntry) (p : Waiter → Bool) (l : List Waiter) → keep p (standing b ts l) ≡ standing b ts (keep p l)
+standing_keep true ts p l = keep_arrange (priority_in ts) p l
+standing_keep false ts p l = refl
 
 -- in one line as they came
-pub standing-line : (b : Bool) (ts : List TaskEntry) (k : ℕ) (l : List Waiter) → keep (λ (e : Waiter). eqb k (lineIn b ts e)) (standing b ts l) ≡ keep (λ (e : Waiter). eqb k (lineIn b ts e)) l
-standing-line true ts k l = in-line (priorityIn ts) k l
-standing-line false ts k l = refl
+pub standing_line : (b : Bool) (ts : List TaskEntry) (k : ℕ) (l : List Waiter) → keep (λ (e : Waiter). eqb k (line_in b ts e)) (standing b ts l) ≡ keep (λ (e : Waiter). eqb k (line_in b ts e)) l
+standing_line true ts k l = in_line_lem (priority_in ts) k l
+standing_line false ts k l = refl
 
 -- the more urgent line first
-pub standing-rises : (b : Bool) (ts : List TaskEntry) (l : List Waiter) → Rising (map (lineIn b ts) (standing b ts l))
-standing-rises true ts l = rises-arranged (priorityIn ts) l
-standing-rises false ts [] = tt
-standing-rises false ts (x ∷ l) = (zeros l, standing-rises false ts l)
+pub standing_rises : (b : Bool) (ts : List TaskEntry) (l : List Waiter) → Rising (map (line_in b ts) (standing b ts l))
+standing_rises true ts l = rises_arranged (priority_in ts) l
+standing_rises false ts [] = tt
+standing_rises false ts (x ∷ l) = (zeros l, standing_rises false ts l)
   where
-    zeros : (l : List Waiter) → All (λ (n : ℕ). 0 ≤ n) (map (lineIn false ts) l)
+    zeros : (l : List Waiter) → All (λ (n : ℕ). 0 ≤ n) (map (line_in false ts) l)
     zeros [] = tt
     zeros (y ∷ l) = (omega arith, zeros l)
 
-pub standing-all : (b : Bool) (ts : List TaskEntry) (P : Waiter → Type 0) (l : List Waiter) → All P l → All P (standing b ts l)
-standing-all true ts P l h = all-arrange (priorityIn ts) P l h
-standing-all false ts P l h = h
+pub standing_all : (b : Bool) (ts : List TaskEntry) (P : Waiter → Type 0) (l : List Waiter) → All P l → All P (standing b ts l)
+standing_all true ts P l h = all_arrange (priority_in ts) P l h
+standing_all false ts P l h = h
 
 -- who stands first is in the most urgent line
-pub standing-least : (b : Bool) (ts : List TaskEntry) (l : List Waiter) {e : Waiter} {r : List Waiter} → standing b ts l ≡ e ∷ r → All (λ (y : Waiter). lineIn b ts e ≤ lineIn b ts y) l
-standing-least true ts l {e} {r} h = all-arranged (priorityIn ts) (λ (y : Waiter). priorityIn ts e ≤ priorityIn ts y) l
-    (subst (All (λ (y : Waiter). priorityIn ts e ≤ priorityIn ts y)) (sym h) (omega arith, (subst (Ranked (priorityIn ts)) h (ranked-arrange (priorityIn ts) l)).0))
-standing-least false ts l h = everywhere l
+pub standing_least : (b : Bool) (ts : List TaskEntry) (l : List Waiter) {e : Waiter} {r : List Waiter} → standing b ts l ≡ e ∷ r → All (λ (y : Waiter). line_in b ts e ≤ line_in b ts y) l
+standing_least true ts l {e} {r} h = all_arranged (priority_in ts) (λ (y : Waiter). priority_in ts e ≤ priority_in ts y) l
+    (subst (All (λ (y : Waiter). priority_in ts e ≤ priority_in ts y)) (sym h) (omega arith, (subst (Ranked (priority_in ts)) h (ranked_arrange (priority_in ts) l)).0))
+standing_least false ts l h = everywhere l
   where
     everywhere : (m : List Waiter) → All (λ (y : Waiter). 0 ≤ 0) m
     everywhere [] = tt
     everywhere (y ∷ m) = (omega arith, everywhere m)
 
 -- nobody is left out, and who stands there came
-pub standing-none : (b : Bool) (ts : List TaskEntry) (l : List Waiter) → standing b ts l ≡ [] → l ≡ []
-standing-none true ts l h = nobody l (sym (length-arrange (priorityIn ts) l) ∙ ap length h)
+pub standing_none : (b : Bool) (ts : List TaskEntry) (l : List Waiter) → standing b ts l ≡ [] → l ≡ []
+standing_none true ts l h = nobody l (sym (length_arrange (priority_in ts) l) ∙ ap length h)
   where
     nobody : (l : List Waiter) → length l ≡ 0 → l ≡ []
     nobody [] e = refl
     nobody (x ∷ l) e = absurd (omega (arith, e))
-standing-none false ts l h = h
+standing_none false ts l h = h
 
-pub standing-nobody : (b : Bool) (ts : List TaskEntry) → standing b ts [] ≡ []
-standing-nobody true ts = refl
-standing-nobody false ts = refl
+pub standing_nobody : (b : Bool) (ts : List TaskEntry) → standing b ts [] ≡ []
+standing_nobody true ts = refl
+standing_nobody false ts = refl
 
-standing-some : (b : Bool) (ts : List TaskEntry) (P : Waiter → Type 0) (l : List Waiter) → Some P (standing b ts l) → Some P l
-standing-some true ts P l h = some-arrange (priorityIn ts) P l h
-standing-some false ts P l h = h
+standing_some : (b : Bool) (ts : List TaskEntry) (P : Waiter → Type 0) (l : List Waiter) → Some P (standing b ts l) → Some P l
+standing_some true ts P l h = some_arrange (priority_in ts) P l h
+standing_some false ts P l h = h
 
-pub standing-distinct : (b : Bool) (ts : List TaskEntry) (l : List Waiter) → Distinct l → Distinct (standing b ts l)
-standing-distinct true ts l d = distinct-arrange (priorityIn ts) l d
-standing-distinct false ts l d = d
+pub standing_distinct : (b : Bool) (ts : List TaskEntry) (l : List Waiter) → Distinct l → Distinct (standing b ts l)
+standing_distinct true ts l d = distinct_arrange (priority_in ts) l d
+standing_distinct false ts l d = d
 
 -- the first leaves, and the others stand as they stood
-pub standing-leaves : (b : Bool) (ts : List TaskEntry) (l : List Waiter) {e : Waiter} {r : List Waiter} → Distinct l → standing b ts l ≡ e ∷ r → standing b ts (leave e.task l) ≡ r
-standing-leaves b ts l {e} {r} d h =
-    sym (standing-keep b ts (isOther e.task) l) ∙ ap (keep (isOther e.task)) h ∙ keep-head e r (subst Distinct h (standing-distinct b ts l d))
+pub standing_leaves : (b : Bool) (ts : List TaskEntry) (l : List Waiter) {e : Waiter} {r : List Waiter} → Distinct l → standing b ts l ≡ e ∷ r → standing b ts (leave e.task l) ≡ r
+standing_leaves b ts l {e} {r} d h =
+    sym (standing_keep b ts (is_other e.task) l) ∙ ap (keep (is_other e.task)) h ∙ keep_head e r (subst Distinct h (standing_distinct b ts l d))
 
 -- who stands first came, so somebody did
-pub standing-came : (b : Bool) (ts : List TaskEntry) (l : List Waiter) {e : Waiter} {r : List Waiter} → standing b ts l ≡ e ∷ r → Some (λ (x : Waiter). x ≡ e) l
-standing-came b ts l {e} {r} h = standing-some b ts (λ (x : Waiter). x ≡ e) l (subst (Some (λ (x : Waiter). x ≡ e)) (sym h) (inl refl))
+pub standing_came : (b : Bool) (ts : List TaskEntry) (l : List Waiter) {e : Waiter} {r : List Waiter} → standing b ts l ≡ e ∷ r → Some (λ (x : Waiter). x ≡ e) l
+standing_came b ts l {e} {r} h = standing_some b ts (λ (x : Waiter). x ≡ e) l (subst (Some (λ (x : Waiter). x ≡ e)) (sym h) (inl refl))
 
-pub standing-first : (b : Bool) (ts : List TaskEntry) (l : List Waiter) {e : Waiter} {r : List Waiter} → standing b ts l ≡ e ∷ r → l ≡ [] → ⊥
-standing-first b ts l h z = cons-ne h (ap (standing b ts) z ∙ standing-nobody b ts)
+pub standing_first : (b : Bool) (ts : List TaskEntry) (l : List Waiter) {e : Waiter} {r : List Waiter} → standing b ts l ≡ e ∷ r → l ≡ [] → ⊥
+standing_first b ts l h z = cons_ne h (ap (standing b ts) z ∙ standing_nobody b ts)
 
 -- ahead of all is who is more urgent than all who came before it and no less urgent than all who came behind it; where all stand as they came, nobody came before it
-pub standing-heads : (b : Bool) (ts : List TaskEntry) (l m : List Waiter) (e : Waiter) → All (λ (y : Waiter). lineIn b ts e < lineIn b ts y) l → All (λ (y : Waiter). lineIn b ts e ≤ lineIn b ts y) m
+pub standing_heads : (b : Bool) (ts : List TaskEntry) (l m : List Waiter) (e : Waiter) → All (λ (y : Waiter). line_in b ts e < line_in b ts y) l → All (λ (y : Waiter). line_in b ts e ≤ line_in b ts y) m
     → (r : List Waiter) × (standing b ts (l ++ (e ∷ m)) ≡ e ∷ r)
-standing-heads true ts l m e h k = heads (priorityIn ts) l m e h k
-standing-heads false ts [] m e h k = (m, refl)
-standing-heads false ts (y ∷ l) m e h k = absurd (omega (arith, h.0))
+standing_heads true ts l m e h k = heads (priority_in ts) l m e h k
+standing_heads false ts [] m e h k = (m, refl)
+standing_heads false ts (y ∷ l) m e h k = absurd (omega (arith, h.0))

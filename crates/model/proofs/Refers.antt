@@ -5,31 +5,31 @@ use mathlib.Core.Option.{Option, none, some}
 use lib.IntN.{ℤ}
 use Rattle.itron.specs.Codes.{Err}
 use Rattle.model.specs.State.{State, no}
-use Rattle.model.specs.Answers.{Out, replyOf, plain, code_of}
+use Rattle.model.specs.Answers.{Out, reply_of, plain, code_of}
 use Rattle.model.specs.Acts.{refer}
-use Rattle.model.specs.Calls.{Op, onSemaphore, onQueue, call, asks, actIf, step}
+use Rattle.model.specs.Calls.{Op, on_semaphore, on_queue, call, asks, act_if, step}
 use Rattle.model.proofs.Cover.{lawful}
 
-module _ (m : State) (z : ℤ) (op : Op) (h : (asks op).isRefer ≡ true) where
-  pub refer-state : (step m (call z op)).state ≡ m
+module _ (m : State) (z : ℤ) (op : Op) (h : (asks op).is_refer ≡ true) where
+  pub refer_state : (step m (call z op)).state ≡ m
   unfolding step
-  refer-state = go ((asks op).check m (no z))
+  refer_state = go ((asks op).check m (no z))
     where
-      go : (o : Option Err) → (actIf m (no z) (asks op) o).state ≡ m
+      go : (o : Option Err) → (act_if m (no z) (asks op) o).state ≡ m
       go (some e) = refl
       go none = ap (λ (o : Out). o.state) ((lawful op).refers m (no z) h)
 
-  pub refer-reply : plain (code_of (step m (call z op)).answer.code) 0 ≡ replyOf (step m (call z op)).answer
+  pub refer_reply : plain (code_of (step m (call z op)).answer.code) 0 ≡ reply_of (step m (call z op)).answer
   unfolding step
-  refer-reply = go ((asks op).check m (no z))
+  refer_reply = go ((asks op).check m (no z))
     where
-      go : (o : Option Err) → plain (code_of (actIf m (no z) (asks op) o).answer.code) 0 ≡ replyOf (actIf m (no z) (asks op) o).answer
+      go : (o : Option Err) → plain (code_of (act_if m (no z) (asks op) o).answer.code) 0 ≡ reply_of (act_if m (no z) (asks op) o).answer
       go (some e) = refl
       go none = rw ((lawful op).refers m (no z) h) refl
 
 -- so it is of both kinds, whatever counts as a refer
-pub semaphore-told : (m : State) (z n : ℤ) → (step m (call z (onSemaphore n refer))).state ≡ m
-semaphore-told m z n = refer-state m z (onSemaphore n refer) refl
+pub semaphore_told_lem : (m : State) (z n : ℤ) → (step m (call z (on_semaphore n refer))).state ≡ m
+semaphore_told_lem m z n = refer_state m z (on_semaphore n refer) refl
 
-pub queue-told : (m : State) (z n : ℤ) → (step m (call z (onQueue n refer))).state ≡ m
-queue-told m z n = refer-state m z (onQueue n refer) refl
+pub queue_told_lem : (m : State) (z n : ℤ) → (step m (call z (on_queue n refer))).state ≡ m
+queue_told_lem m z n = refer_state m z (on_queue n refer) refl

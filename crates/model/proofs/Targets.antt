@@ -7,20 +7,20 @@ use mathlib.Core.List.{List}
 use lib.IntN.{ℤ}
 use lib.ListN.{length, get_or}
 use borrow.Author.Tests.{le-leb, lt-leb}
-use Rattle.access.specs.Domains.{ordinalOf}
+use Rattle.access.specs.Domains.{ordinal_of}
 use Rattle.model.specs.declared.check.Target.TheVariants.{OutOfRange, Missing, At}
 use Rattle.model.specs.State.{no}
 use Rattle.model.specs.Rooms.{Room}
-use Rattle.model.specs.Checks.{targetIn}
+use Rattle.model.specs.Checks.{target_in}
 use Rattle.model.proofs.Ordinals.{outside, within}
 
 module _ {C R : Type 0} (r : Room C R) (xs : List R) (z : ℤ) where
-  pub out_of_range : ordinalOf z r.most ≡ 0 → OutOfRange ≡ targetIn r xs (no z)
+  pub out_of_range : ordinal_of z r.most ≡ 0 → OutOfRange ≡ target_in r xs (no z)
   out_of_range e = rw (outside z r.most e)
 
-  module _ (k : ℕ) (e : k ≡ ordinalOf z r.most) (n : k ≢ 0) where
-    pub missing : length xs < k → Missing ≡ targetIn r xs (no z)
+  module _ (k : ℕ) (e : k ≡ ordinal_of z r.most) (n : k ≢ 0) where
+    pub missing : length xs < k → Missing ≡ target_in r xs (no z)
     missing l = let w = within z r.most k e n in rw (w.test, w.same, lt-leb (suc (k - 1)) (length xs) (omega arith))
 
-    pub found : k ≤ length xs → At (k - 1) (r.vector (get_or xs (k - 1) r.nothing)) ≡ targetIn r xs (no z)
+    pub found : k ≤ length xs → At (k - 1) (r.vector (get_or xs (k - 1) r.nothing)) ≡ target_in r xs (no z)
     found l = let w = within z r.most k e n in rw (w.test, w.same, le-leb (suc (k - 1)) (length xs) (omega arith))

@@ -8,7 +8,7 @@ use native.Mathlib.Omega.{arith}
 use lib.Dec.{eqb, ltb, leb}
 use borrow.Author.Tests.{ltb-true, ltb-false, leb-true, leb-false}
 use Rattle.itron.specs.Codes.{Err}
-use Rattle.model.specs.Answers.{refuseIf}
+use Rattle.model.specs.Answers.{refuse_if}
 use Rattle.model.proofs.Lists.{eq_of, ne_of, no_both, and_left, and_right, both}
 
 -- the test b holds exactly when P does
@@ -31,30 +31,30 @@ module _ {b : Bool} {P : Type 0} (t : Tells b P) where
       go true e = absurd (f (t.yes e))
       go false e = refl
 
-pub le-tells : (m n : ℕ) → Tells (leb m n) (m ≤ n)
-le-tells m n = record { yes = λ h. leb-true m n h; no = λ h p. omega (arith, leb-false m n h) }
+pub le_tells : (m n : ℕ) → Tells (leb m n) (m ≤ n)
+le_tells m n = record { yes = λ h. leb-true m n h; no = λ h p. omega (arith, leb-false m n h) }
 
-pub lt-tells : (m n : ℕ) → Tells (ltb m n) (m < n)
-lt-tells m n = record { yes = λ h. ltb-true m n h; no = λ h p. omega (arith, ltb-false m n h) }
+pub lt_tells : (m n : ℕ) → Tells (ltb m n) (m < n)
+lt_tells m n = record { yes = λ h. ltb-true m n h; no = λ h p. omega (arith, ltb-false m n h) }
 
-pub eq-tells : (m n : ℕ) → Tells (eqb m n) (m ≡ n)
-eq-tells m n = record { yes = eq_of m n; no = ne_of m n }
+pub eq_tells : (m n : ℕ) → Tells (eqb m n) (m ≡ n)
+eq_tells m n = record { yes = eq_of m n; no = ne_of m n }
 
-pub true-tells : (b : Bool) → Tells b (b ≡ true)
-true-tells b = record { yes = λ h. h; no = λ h p. no_both p h }
+pub true_tells : (b : Bool) → Tells b (b ≡ true)
+true_tells b = record { yes = λ h. h; no = λ h p. no_both p h }
 
-pub always-tells : Tells true Unit
-always-tells = record { yes = λ h. tt; no = λ h p. no_both {b = true} refl h }
+pub always_tells : Tells true Unit
+always_tells = record { yes = λ h. tt; no = λ h p. no_both {b = true} refl h }
 
-pub never-tells : Tells false ⊥
-never-tells = record { yes = λ h. no_both h refl; no = λ h p. p }
+pub never_tells : Tells false ⊥
+never_tells = record { yes = λ h. no_both h refl; no = λ h p. p }
 
 module _ {a b : Bool} {P Q : Type 0} (f : Tells a P) (g : Tells b Q) where
-  pub and-tells : Tells (a && b) (P × Q)
-  and-tells = record { yes = λ h. (f.yes (and_left a b h), g.yes (and_right a b h)); no = λ h p. no_both (both (holds f p.0) (holds g p.1)) h }
+  pub and_tells : Tells (a && b) (P × Q)
+  and_tells = record { yes = λ h. (f.yes (and_left a b h), g.yes (and_right a b h)); no = λ h p. no_both (both (holds f p.0) (holds g p.1)) h }
 
-  pub or-tells : Tells (a || b) (P ⊎ Q)
-  or-tells = record { yes = λ h. go a b refl refl h; no = λ h p. stop a b refl refl h p }
+  pub or_tells : Tells (a || b) (P ⊎ Q)
+  or_tells = record { yes = λ h. go a b refl refl h; no = λ h p. stop a b refl refl h p }
     where
       go : (c d : Bool) → a ≡ c → b ≡ d → c || d ≡ true → P ⊎ Q
       go true d e k h = inl (f.yes e)
@@ -67,36 +67,36 @@ module _ {a b : Bool} {P Q : Type 0} (f : Tells a P) (g : Tells b Q) where
       stop false false e k h (inl p) = f.no e p
       stop false false e k h (inr q) = g.no k q
 
-pub iff-tells : {b : Bool} {P Q : Type 0} → (P → Q) → (Q → P) → Tells b P → Tells b Q
-iff-tells f g t = record { yes = λ h. f (t.yes h); no = λ h q. t.no h (g q) }
+pub iff_tells : {b : Bool} {P Q : Type 0} → (P → Q) → (Q → P) → Tells b P → Tells b Q
+iff_tells f g t = record { yes = λ h. f (t.yes h); no = λ h q. t.no h (g q) }
 
-pub not-tells : {b : Bool} {P : Type 0} → Tells b P → Tells (not b) (P → ⊥)
-not-tells {b} t = record { yes = λ h p. no_both h (ap not (holds t p)); no = λ h f. no_both (ap not (fails t f)) h }
+pub not_tells : {b : Bool} {P : Type 0} → Tells b P → Tells (not b) (P → ⊥)
+not_tells {b} t = record { yes = λ h p. no_both h (ap not (holds t p)); no = λ h f. no_both (ap not (fails t f)) h }
 
 -- first hit wins
 module _ {b : Bool} {P : Type 0} (t : Tells b P) (e : Err) (r : Option Err) where
-  pub passes_on : P → refuseIf (not b) e r ≡ r
-  passes_on p = ap (λ (c : Bool). refuseIf (not c) e r) (holds t p)
+  pub passes_on : P → refuse_if (not b) e r ≡ r
+  passes_on p = ap (λ (c : Bool). refuse_if (not c) e r) (holds t p)
 
-  pub stops_at : (P → ⊥) → refuseIf (not b) e r ≡ some e
-  stops_at f = ap (λ (c : Bool). refuseIf (not c) e r) (fails t f)
+  pub stops_at : (P → ⊥) → refuse_if (not b) e r ≡ some e
+  stops_at f = ap (λ (c : Bool). refuse_if (not c) e r) (fails t f)
 
   -- another code is a later check's
-  pub later : {x : Err} → e ≢ x → refuseIf (not b) e r ≡ some x → P × (r ≡ some x)
+  pub later : {x : Err} → e ≢ x → refuse_if (not b) e r ≡ some x → P × (r ≡ some x)
   later {x} d h = go b refl h
     where
-      go : (c : Bool) → b ≡ c → refuseIf (not c) e r ≡ some x → P × (r ≡ some x)
+      go : (c : Bool) → b ≡ c → refuse_if (not c) e r ≡ some x → P × (r ≡ some x)
       go true k g = (t.yes k, g)
       go false k g = absurd (d (cc))
 
   -- what no check refuses has passed each
-  pub passed-by : refuseIf (not b) e r ≡ none → P × (r ≡ none)
-  passed-by h = go b refl h
+  pub passed_by : refuse_if (not b) e r ≡ none → P × (r ≡ none)
+  passed_by h = go b refl h
     where
-      go : (c : Bool) → b ≡ c → refuseIf (not c) e r ≡ none → P × (r ≡ none)
+      go : (c : Bool) → b ≡ c → refuse_if (not c) e r ≡ none → P × (r ≡ none)
       go true k g = (t.yes k, g)
       go false k g = absurd (let z : ◌≡◌ {A = ℕ} 0 1 = cc in omega arith)
 
 -- the last check's code tells that it failed
-pub stopped : {b : Bool} {P : Type 0} {x : Err} → Tells b P → (e : Err) → refuseIf (not b) e none ≡ some x → P → ⊥
+pub stopped : {b : Bool} {P : Type 0} {x : Err} → Tells b P → (e : Err) → refuse_if (not b) e none ≡ some x → P → ⊥
 stopped t e h p = let k = passes_on t e none p in let z : ◌≡◌ {A = ℕ} 0 1 = cc in omega arith

@@ -10,24 +10,24 @@ use Rattle.model.specs.State.{Vector}
 pub data Act (C : Type 0) : Type 0 where
   own : C → Act C
   refer : Act C
-  setVector : Vector → Act C
+  set_vector : Vector → Act C
 
 -- what the room says of its own calls; of the two others it is always the same
-abbrev pub ofOwn {ℓ} : {A : Type ℓ} {C : Type 0} → A → (C → A) → Act C → A
-ofOwn x f (own c) = f c
-ofOwn x f refer = x
-ofOwn x f (setVector v) = x
+abbrev pub of_own {ℓ} : {A : Type ℓ} {C : Type 0} → A → (C → A) → Act C → A
+of_own x f (own c) = f c
+of_own x f refer = x
+of_own x f (set_vector v) = x
 
 -- which of its own calls are normal operation 1 and which are 2 the room says; set-vector is management, refer is reference
-abbrev pub operationOf : {C : Type 0} → (C → Operation) → Act C → Operation
-operationOf f (own c) = f c
-operationOf f refer = Reference
-operationOf f (setVector v) = Management
+abbrev pub operation_of : {C : Type 0} → (C → Operation) → Act C → Operation
+operation_of f (own c) = f c
+operation_of f refer = Reference
+operation_of f (set_vector v) = Management
 
-abbrev pub isRefer : {C : Type 0} → Act C → Bool
-isRefer (own c) = false
-isRefer refer = true
-isRefer (setVector v) = false
+abbrev pub is_refer : {C : Type 0} → Act C → Bool
+is_refer (own c) = false
+is_refer refer = true
+is_refer (set_vector v) = false
 
 -- ---- what a call must meet besides the checks of every call: its arguments (E_PAR), its numbers that need the object (E_PAR),
 -- and its use of the object (the code that the room says)

@@ -1,13 +1,13 @@
 -- What an operation answers (document 01, "Calls on an open gateway", "Codes a desk clerk sees"). Definitions only.
 use Rattle.std.specs.Prelude.{Bool, true, false, List, [], ◌∷◌, ℕ, ℤ}
 use Rattle.std.proofs.Math.Option.{Option, none, some}
-use Rattle.itron.specs.Codes.{Err, Code, ok, waiting, error, okNumber, number_of}
+use Rattle.itron.specs.Codes.{Err, Code, ok, waiting, error, ok_number, number_of}
 pub use Rattle.model.specs.declared.Released.{Released}
 pub use Rattle.model.specs.declared.Info.{Info}
 pub use Rattle.model.specs.declared.Reply.{Reply}
 use Rattle.model.specs.declared.Outcome.{Outcome}
 use Rattle.model.specs.declared.Outcome.TheVariants as Outcome
-use Rattle.model.specs.State.{State, Waiter, zeroVector}
+use Rattle.model.specs.State.{State, Waiter, zero_vector}
 
 -- an answer carries a code or "waiting", the word if any, and the released tasks with their words
 pub record Answer : Type 0 where
@@ -25,7 +25,7 @@ abbrev pub out : Answer → State → Out
 out a s = record { answer = a; state = s }
 
 abbrev pub no_info : Info
-no_info = record { first = 0; second = 0; amount = 0; vector = zeroVector }
+no_info = record { first = 0; second = 0; amount = 0; vector = zero_vector }
 
 abbrev pub say : Code → ℕ → List Released → Answer
 say c w rs = record { code = c; word = w; released = rs; info = no_info }
@@ -38,29 +38,29 @@ abbrev pub done : State → Out
 done s = out (say ok 0 []) s
 
 -- checks in order, first hit wins
-abbrev pub refuseIf : Bool → Err → Option Err → Option Err
-refuseIf true e r = some e
-refuseIf false e r = r
+abbrev pub refuse_if : Bool → Err → Option Err → Option Err
+refuse_if true e r = some e
+refuse_if false e r = r
 
 -- a refer tells, and gives back the state it got
 abbrev pub tells : Info → Answer
 tells i = record { code = ok; word = 0; released = []; info = i }
 
 -- ---- what goes by an answer of E_OK alone, what by "waiting" alone, and what by either
-abbrev pub whenOk {ℓ} : {A : Type ℓ} → A → A → Code → A
-whenOk x y ok = y
-whenOk x y waiting = x
-whenOk x y (error e) = x
+abbrev pub when_ok {ℓ} : {A : Type ℓ} → A → A → Code → A
+when_ok x y ok = y
+when_ok x y waiting = x
+when_ok x y (error e) = x
 
-abbrev pub whenWaiting {ℓ} : {A : Type ℓ} → A → A → Code → A
-whenWaiting x y ok = x
-whenWaiting x y waiting = y
-whenWaiting x y (error e) = x
+abbrev pub when_waiting {ℓ} : {A : Type ℓ} → A → A → Code → A
+when_waiting x y ok = x
+when_waiting x y waiting = y
+when_waiting x y (error e) = x
 
-abbrev pub whenAccepted {ℓ} : {A : Type ℓ} → A → A → Code → A
-whenAccepted x y ok = y
-whenAccepted x y waiting = y
-whenAccepted x y (error e) = x
+abbrev pub when_accepted {ℓ} : {A : Type ℓ} → A → A → Code → A
+when_accepted x y ok = y
+when_accepted x y waiting = y
+when_accepted x y (error e) = x
 
 -- ---- what an effect on the waiting tasks and the records of one kind gives
 pub record Effect (R : Type 0) : Type 0 where
@@ -72,21 +72,21 @@ abbrev pub effect : {R : Type 0} → Answer → List Waiter → List R → Effec
 effect a w r = record { answer = a; waits = w; records = r }
 
 -- ---- the answer as the program gives it: which outcome is which number of document 01, or "waiting"
-abbrev pub outcomeOf : Code → Outcome
-outcomeOf ok = Outcome.Code okNumber
-outcomeOf waiting = Outcome.Waiting
-outcomeOf (error e) = Outcome.Code (number_of e)
+abbrev pub outcome_of : Code → Outcome
+outcome_of ok = Outcome.Code ok_number
+outcome_of waiting = Outcome.Waiting
+outcome_of (error e) = Outcome.Code (number_of e)
 
 -- where there is no released task, both numbers are 0
 abbrev pub nobody : Released
 nobody = record { task = 0; word = 0 }
 
-abbrev pub releasedOf : List Released → Released
-releasedOf [] = nobody
-releasedOf (x ∷ l) = x
+abbrev pub released_of : List Released → Released
+released_of [] = nobody
+released_of (x ∷ l) = x
 
-abbrev pub replyOf : Answer → Reply
-replyOf a = record { outcome = outcomeOf a.code; word = a.word; released = releasedOf a.released }
+abbrev pub reply_of : Answer → Reply
+reply_of a = record { outcome = outcome_of a.code; word = a.word; released = released_of a.released }
 
 -- a code and a word, nobody released
 abbrev pub plain : ℤ → ℕ → Reply
@@ -94,11 +94,11 @@ plain z w = record { outcome = Outcome.Code z; word = w; released = nobody }
 
 -- the number of an answer that never waits: a refer, an entry
 abbrev pub code_of : Code → ℤ
-code_of ok = okNumber
-code_of waiting = okNumber
+code_of ok = ok_number
+code_of waiting = ok_number
 code_of (error e) = number_of e
 
 -- the number that checks give: the first refusal's, or E_OK
 abbrev pub result_of : Option Err → ℤ
-result_of none = okNumber
+result_of none = ok_number
 result_of (some e) = number_of e

@@ -10,8 +10,8 @@ use Rattle.model.specs.Lists.{index, at}
 use Rattle.model.specs.Rooms.{Room, in_range}
 
 -- which of a kind's objects, with these records, a number names
-abbrev pub targetIn : {C R : Type 0} → Room C R → List R → ℕ → Target
-targetIn r xs n = cond (in_range r.most n) (cond (leb n (length xs)) (At (index n) (r.vector (at r.nothing xs n))) Missing) OutOfRange
+abbrev pub target_in : {C R : Type 0} → Room C R → List R → ℕ → Target
+target_in r xs n = cond (in_range r.most n) (cond (leb n (length xs)) (At (index n) (r.vector (at r.nothing xs n))) Missing) OutOfRange
 
 -- a refusal's code, or the indexes of the task t and of the object n
 abbrev pub checked : Option Err → ℕ → ℕ → Check

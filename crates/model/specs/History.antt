@@ -4,11 +4,11 @@ use Rattle.std.proofs.Math.Option.{Option, none, some}
 use Rattle.itron.specs.Codes.{Code}
 use Rattle.model.specs.Lists.{keep}
 use Rattle.model.specs.State.{Vector, Waiter, State, no}
-use Rattle.model.specs.Answers.{Released, Answer, whenOk, whenWaiting}
-use Rattle.model.specs.Waits.{isOther}
-use Rattle.model.specs.Acts.{Act, own, refer, setVector, ofOwn}
+use Rattle.model.specs.Answers.{Released, Answer, when_ok, when_waiting}
+use Rattle.model.specs.Waits.{is_other}
+use Rattle.model.specs.Acts.{Act, own, refer, set_vector, of_own}
 use Rattle.model.specs.ExtendedCalls.{ExtendedCall}
-use Rattle.model.specs.Calls.{Op, onSemaphore, onQueue, onLevel, Call, asks, step}
+use Rattle.model.specs.Calls.{Op, on_semaphore, on_queue, on_level, Call, asks, step}
 
 -- an event: the state that a call got, the call, and its answer
 pub record Event : Type 0 where
@@ -34,12 +34,12 @@ history s (c ∷ cs) = event (after s cs) c ∷ history s cs
 
 -- ---- waits: the one that a call which answers "waiting" begins
 abbrev pub joined : Event → List Waiter
-joined e = whenWaiting [] ((asks e.call.op).begins (no e.call.caller)) e.answer.code
+joined e = when_waiting [] ((asks e.call.op).begins (no e.call.caller)) e.answer.code
 
 -- the list without the tasks that an answer shows released
 abbrev pub without : List Released → List Waiter → List Waiter
 without [] l = l
-without (r ∷ rs) l = without rs (keep (isOther r.task) l)
+without (r ∷ rs) l = without rs (keep (is_other r.task) l)
 
 -- the waits that calls began by answering "waiting" and whose release no later answer shows, in the order of the calls
 abbrev pub pending : History → List Waiter
@@ -47,10 +47,10 @@ pending [] = []
 pending (e ∷ h) = without e.answer.released (pending h) ++ joined e
 
 -- what a call does to its caller's level, if it is on that
-abbrev pub extendedOf : Op → Option ExtendedCall
-extendedOf (onSemaphore n a) = none
-extendedOf (onQueue n a) = none
-extendedOf (onLevel c) = some c
+abbrev pub extended_of : Op → Option ExtendedCall
+extended_of (on_semaphore n a) = none
+extended_of (on_queue n a) = none
+extended_of (on_level c) = some c
 
 -- ---- a history as one object sees it: of each call who made it, what was asked of this object (none where the call was on another), what it did to its caller's
 -- level, and the answer
@@ -61,28 +61,28 @@ pub record Made (C : Type 0) : Type 0 where
   pub answer : Answer
 
 module _ {C : Type 0} where
-  abbrev pub seenBy : (Op → Option (Act C)) → Event → Made C
-  seenBy f e = record { caller = no e.call.caller; asked = f e.call.op; extended = extendedOf e.call.op; answer = e.answer }
+  abbrev pub seen_by : (Op → Option (Act C)) → Event → Made C
+  seen_by f e = record { caller = no e.call.caller; asked = f e.call.op; extended = extended_of e.call.op; answer = e.answer }
 
   -- what a call on an object of this kind asks of the object in question, by whether it is the one that the call names
-  abbrev pub askedIf : Bool → Act C → Option (Act C)
-  askedIf true a = some a
-  askedIf false a = none
+  abbrev pub asked_if : Bool → Act C → Option (Act C)
+  asked_if true a = some a
+  asked_if false a = none
 
-  abbrev pub ofAsked {ℓ} : {A : Type ℓ} → A → (C → A) → Option (Act C) → A
-  ofAsked x f none = x
-  ofAsked x f (some a) = ofOwn x f a
+  abbrev pub of_asked {ℓ} : {A : Type ℓ} → A → (C → A) → Option (Act C) → A
+  of_asked x f none = x
+  of_asked x f (some a) = of_own x f a
 
   -- the object's vector after these calls: that of the last set-vector on it answered E_OK, or else the one that it had
-  abbrev pub vectorIn : Act C → Vector → Vector
-  vectorIn (own c) v = v
-  vectorIn refer v = v
-  vectorIn (setVector w) v = w
+  abbrev pub vector_in : Act C → Vector → Vector
+  vector_in (own c) v = v
+  vector_in refer v = v
+  vector_in (set_vector w) v = w
 
-  abbrev pub vectorBy : Option (Act C) → Code → Vector → Vector
-  vectorBy none k v = v
-  vectorBy (some a) k v = whenOk v (vectorIn a v) k
+  abbrev pub vector_by : Option (Act C) → Code → Vector → Vector
+  vector_by none k v = v
+  vector_by (some a) k v = when_ok v (vector_in a v) k
 
-  abbrev pub vectorSince : Vector → List (Made C) → Vector
-  vectorSince v [] = v
-  vectorSince v (m ∷ h) = vectorBy m.asked m.answer.code (vectorSince v h)
+  abbrev pub vector_since : Vector → List (Made C) → Vector
+  vector_since v [] = v
+  vector_since v (m ∷ h) = vector_by m.asked m.answer.code (vector_since v h)

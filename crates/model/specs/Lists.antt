@@ -18,14 +18,14 @@ module _ {A : Type 0} where
   put l (suc i) x = set l i x
 
   -- an element in front, where the test holds
-  abbrev pub consIf : Bool → A → List A → List A
-  consIf true x l = x ∷ l
-  consIf false x l = l
+  abbrev pub cons_if : Bool → A → List A → List A
+  cons_if true x l = x ∷ l
+  cons_if false x l = l
 
   -- the elements that pass a test, in their order
   abbrev pub keep : (A → Bool) → List A → List A
   keep p [] = []
-  keep p (x ∷ l) = consIf (p x) x (keep p l)
+  keep p (x ∷ l) = cons_if (p x) x (keep p l)
 
   -- whether an element passes a test
   abbrev pub any_of : (A → Bool) → List A → Bool

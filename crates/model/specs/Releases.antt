@@ -5,8 +5,8 @@ use Rattle.itron.specs.Codes.{ok}
 use Rattle.model.specs.Lists.{All, Some}
 use Rattle.model.specs.State.{Side, Place, Waiter, place, no}
 use Rattle.model.specs.Answers.{Released}
-use Rattle.model.specs.Acts.{ofOwn}
-use Rattle.model.specs.Calls.{Op, onSemaphore, onQueue, onLevel}
+use Rattle.model.specs.Acts.{of_own}
+use Rattle.model.specs.Calls.{Op, on_semaphore, on_queue, on_level}
 use Rattle.model.specs.History.{Event, History, pending}
 use Rattle.model.specs.SemaphoreClaims as Semaphores
 use Rattle.model.specs.QueueClaims as Queues
@@ -16,10 +16,10 @@ abbrev pub place_of : ℕ → Option Side → Option Place
 place_of n none = none
 place_of n (some d) = some (place d n)
 
-abbrev pub servedBy : Op → Option Place
-servedBy (onSemaphore n a) = place_of (no n) (ofOwn none Semaphores.servedIn a)
-servedBy (onQueue n a) = place_of (no n) (ofOwn none Queues.servedIn a)
-servedBy (onLevel c) = none
+abbrev pub served_by : Op → Option Place
+served_by (on_semaphore n a) = place_of (no n) (of_own none Semaphores.served_in a)
+served_by (on_queue n a) = place_of (no n) (of_own none Queues.served_in a)
+served_by (on_level c) = none
 
 -- ---- task t is among those who wait, at that place; it is not among them
 abbrev pub WaitsAt : Option Place → ℕ → List Waiter → Type 0
@@ -34,7 +34,7 @@ pub record EndsWait (e : Event) (h : History) (r : Released) : Type 0 where
   -- the call is done
   pub done : e.answer.code ≡ ok
   -- the task was waiting, at the place that the call serves
-  pub waited : WaitsAt (servedBy e.call.op) r.task (pending h)
+  pub waited : WaitsAt (served_by e.call.op) r.task (pending h)
   -- and waits no longer
   pub ended : WaitsNot r.task (pending (e ∷ h))
 

@@ -4,7 +4,7 @@ pub use Rattle.access.specs.declared.vector.Vector.{Vector}
 pub use Rattle.model.specs.declared.sem.Semaphore.{Semaphore as Sem}
 pub use Rattle.model.specs.declared.Side.{Side}
 pub use Rattle.model.specs.declared.Side.TheVariants.{OnSem as onSem, Receiving as receiving, Sending as sending}
-use Rattle.access.specs.Domains.{runningOf}
+use Rattle.access.specs.Domains.{running_of}
 use Rattle.access.specs.Vectors.{uniform}
 use Rattle.model.specs.Lists.{at}
 
@@ -57,40 +57,40 @@ pub record State : Type 0 where
   pub levels : List ℕ
 
 -- every task gets a level, "0 at first"
-abbrev pub noLevels : List TaskEntry → List ℕ
-noLevels ts = map (λ (t : TaskEntry). 0) ts
+abbrev pub no_levels : List TaskEntry → List ℕ
+no_levels ts = map (λ (t : TaskEntry). 0) ts
 
 -- ---- the state with another part: the only places where a whole state is written
-abbrev pub stateWith : Fixed → State
-stateWith f = record { fixed = f; waits = []; sems = []; queues = []; levels = noLevels f.tasks }
+abbrev pub state_with : Fixed → State
+state_with f = record { fixed = f; waits = []; sems = []; queues = []; levels = no_levels f.tasks }
 
-abbrev pub setFixed : State → Fixed → State
-setFixed s f = record { fixed = f; waits = s.waits; sems = s.sems; queues = s.queues; levels = s.levels }
+abbrev pub set_fixed : State → Fixed → State
+set_fixed s f = record { fixed = f; waits = s.waits; sems = s.sems; queues = s.queues; levels = s.levels }
 
-abbrev pub setWaits : State → List Waiter → State
-setWaits s ws = record { fixed = s.fixed; waits = ws; sems = s.sems; queues = s.queues; levels = s.levels }
+abbrev pub set_waits : State → List Waiter → State
+set_waits s ws = record { fixed = s.fixed; waits = ws; sems = s.sems; queues = s.queues; levels = s.levels }
 
-abbrev pub setSems : State → List Sem → State
-setSems s xs = record { fixed = s.fixed; waits = s.waits; sems = xs; queues = s.queues; levels = s.levels }
+abbrev pub set_sems : State → List Sem → State
+set_sems s xs = record { fixed = s.fixed; waits = s.waits; sems = xs; queues = s.queues; levels = s.levels }
 
-abbrev pub setQueues : State → List Queue → State
-setQueues s xs = record { fixed = s.fixed; waits = s.waits; sems = s.sems; queues = xs; levels = s.levels }
+abbrev pub set_queues : State → List Queue → State
+set_queues s xs = record { fixed = s.fixed; waits = s.waits; sems = s.sems; queues = xs; levels = s.levels }
 
-abbrev pub setLevels : State → List ℕ → State
-setLevels s ks = record { fixed = s.fixed; waits = s.waits; sems = s.sems; queues = s.queues; levels = ks }
+abbrev pub set_levels : State → List ℕ → State
+set_levels s ks = record { fixed = s.fixed; waits = s.waits; sems = s.sems; queues = s.queues; levels = ks }
 
 -- what is fixed, with another part
-abbrev pub setClosed : Fixed → Bool → Fixed
-setClosed f b = record { closed = b; count = f.count; unit = f.unit; tasks = f.tasks; regions = f.regions }
+abbrev pub set_closed : Fixed → Bool → Fixed
+set_closed f b = record { closed = b; count = f.count; unit = f.unit; tasks = f.tasks; regions = f.regions }
 
-abbrev pub setUnit : Fixed → ℕ → Fixed
-setUnit f u = record { closed = f.closed; count = f.count; unit = u; tasks = f.tasks; regions = f.regions }
+abbrev pub set_unit : Fixed → ℕ → Fixed
+set_unit f u = record { closed = f.closed; count = f.count; unit = u; tasks = f.tasks; regions = f.regions }
 
-abbrev pub setTasks : Fixed → List TaskEntry → Fixed
-setTasks f ts = record { closed = f.closed; count = f.count; unit = f.unit; tasks = ts; regions = f.regions }
+abbrev pub set_tasks : Fixed → List TaskEntry → Fixed
+set_tasks f ts = record { closed = f.closed; count = f.count; unit = f.unit; tasks = ts; regions = f.regions }
 
-abbrev pub setRegions : Fixed → List Region → Fixed
-setRegions f rs = record { closed = f.closed; count = f.count; unit = f.unit; tasks = f.tasks; regions = rs }
+abbrev pub set_regions : Fixed → List Region → Fixed
+set_regions f rs = record { closed = f.closed; count = f.count; unit = f.unit; tasks = f.tasks; regions = rs }
 
 -- ---- objects by number; what has no such number is all zeros
 -- a number as it counts objects: what is not positive is 0, which numbers none
@@ -98,57 +98,57 @@ abbrev pub no : ℤ → ℕ
 no (pos n) = n
 no (negsuc n) = zero
 
-abbrev pub zeroVector : Vector
-zeroVector = uniform 0
+abbrev pub zero_vector : Vector
+zero_vector = uniform 0
 
-abbrev pub noTask : TaskEntry
-noTask = record { domain = pos zero; priority = 0 }
+abbrev pub no_task : TaskEntry
+no_task = record { domain = pos zero; priority = 0 }
 
-abbrev pub noSem : Sem
-noSem = record { domain = pos zero; attribute = 0; max = 0; count = 0; vector = zeroVector }
+abbrev pub no_sem : Sem
+no_sem = record { domain = pos zero; attribute = 0; max = 0; count = 0; vector = zero_vector }
 
-abbrev pub noQueue : Queue
-noQueue = record { domain = pos zero; attribute = 0; capacity = 0; buffer = []; vector = zeroVector }
+abbrev pub no_queue : Queue
+no_queue = record { domain = pos zero; attribute = 0; capacity = 0; buffer = []; vector = zero_vector }
 
-abbrev pub noRegion : Region
-noRegion = record { domain = pos zero; attribute = 0; base = 0; size = 0; vector = zeroVector }
+abbrev pub no_region : Region
+no_region = record { domain = pos zero; attribute = 0; base = 0; size = 0; vector = zero_vector }
 
-abbrev pub semAt : State → ℕ → Sem
-semAt s i = at noSem s.sems i
+abbrev pub sem_at : State → ℕ → Sem
+sem_at s i = at no_sem s.sems i
 
-abbrev pub queueAt : State → ℕ → Queue
-queueAt s q = at noQueue s.queues q
+abbrev pub queue_at : State → ℕ → Queue
+queue_at s q = at no_queue s.queues q
 
-abbrev pub taskAt : State → ℕ → TaskEntry
-taskAt s t = at noTask s.fixed.tasks t
+abbrev pub task_at : State → ℕ → TaskEntry
+task_at s t = at no_task s.fixed.tasks t
 
-abbrev pub domainAt : State → ℕ → ℤ
-domainAt s t = (taskAt s t).domain
+abbrev pub domain_at : State → ℕ → ℤ
+domain_at s t = (task_at s t).domain
 
-abbrev pub priorityAt : State → ℕ → ℕ
-priorityAt s t = (taskAt s t).priority
+abbrev pub priority_at : State → ℕ → ℕ
+priority_at s t = (task_at s t).priority
 
-abbrev pub levelAt : State → ℕ → ℕ
-levelAt s t = at 0 s.levels t
+abbrev pub level_at : State → ℕ → ℕ
+level_at s t = at 0 s.levels t
 
 -- the domain as which a task runs: its own, or inside extended service calls the kernel domain
 abbrev pub running_at : State → ℕ → ℤ
-running_at s t = runningOf (domainAt s t) (levelAt s t)
+running_at s t = running_of (domain_at s t) (level_at s t)
 
 -- ---- places
 abbrev pub place : Side → ℕ → Place
 place d n = record { side = d; number = n }
 
-abbrev pub sideNumber : Side → ℕ
-sideNumber onSem = 0
-sideNumber receiving = 1
-sideNumber sending = 2
+abbrev pub side_number : Side → ℕ
+side_number onSem = 0
+side_number receiving = 1
+side_number sending = 2
 
-abbrev pub sameSide : Side → Side → Bool
-sameSide d e = eqb (sideNumber d) (sideNumber e)
+abbrev pub same_side : Side → Side → Bool
+same_side d e = eqb (side_number d) (side_number e)
 
-abbrev pub samePlace : Place → Place → Bool
-samePlace p r = sameSide p.side r.side && eqb p.number r.number
+abbrev pub same_place : Place → Place → Bool
+same_place p r = same_side p.side r.side && eqb p.number r.number
 
 abbrev pub waiter : ℕ → Side → ℕ → ℕ → Waiter
 waiter t d n w = record { task = t; place = place d n; word = w }

@@ -3,26 +3,26 @@
 use Rattle.std.specs.Prelude.{◌≡◌, Bool, true, false, List, [], ◌∷◌, ◌++◌, map, ℕ, ◌≤◌, length, drop}
 use Rattle.std.proofs.Math.Option.{Option, none, some}
 use Rattle.model.specs.Lists.{total}
-use Rattle.model.specs.State.{Place, Waiter, State, samePlace}
+use Rattle.model.specs.State.{Place, Waiter, State, same_place}
 use Rattle.model.specs.Answers.{Released}
-use Rattle.model.specs.Waits.{order_of, waitersAt}
+use Rattle.model.specs.Waits.{order_of, waiters_at}
 use Rattle.model.specs.Calls.{Call, asks}
 use Rattle.model.specs.History.{Event, event, after, history}
 
-abbrev pub countIf : Bool → ℕ
-countIf true = 1
-countIf false = 0
+abbrev pub count_if : Bool → ℕ
+count_if true = 1
+count_if false = 0
 
-abbrev pub countAt : Place → Option Place → ℕ
-countAt p none = 0
-countAt p (some r) = countIf (samePlace p r)
+abbrev pub count_at : Place → Option Place → ℕ
+count_at p none = 0
+count_at p (some r) = count_if (same_place p r)
 
 -- 1 where an event is an accepted call of the opposite kind to those who wait at p, else 0
 abbrev pub serves : Place → Event → ℕ
-serves p e = countAt p ((asks e.call.op).serves e.answer.code)
+serves p e = count_at p ((asks e.call.op).serves e.answer.code)
 
-abbrev pub tasksOf : List Released → List ℕ
-tasksOf rs = map (λ (r : Released). r.task) rs
+abbrev pub tasks_of : List Released → List ℕ
+tasks_of rs = map (λ (r : Released). r.task) rs
 
 -- those who wait at p stand as they came
 abbrev pub FirstCome : State → Place → Type 0
@@ -32,7 +32,7 @@ FirstCome s p = order_of s p.side p.number ≡ false
 pub record InTurn (s : State) (p : Place) (e : Waiter) (ahead : List Waiter) : Type 0 where
   -- after any calls of which no more than k = length ahead were accepted and of the opposite kind, it still waits, with as many fewer ahead
   pub still : (cs : List Call) → total (serves p) (history s cs) ≤ length ahead
-      → (m : List Waiter) × (waitersAt (after s cs) p ≡ drop (total (serves p) (history s cs)) ahead ++ e ∷ m)
+      → (m : List Waiter) × (waiters_at (after s cs) p ≡ drop (total (serves p) (history s cs)) ahead ++ e ∷ m)
   -- and the one that follows exactly k of them, the (k+1)th, releases it and nobody else
   pub served : (cs : List Call) (c : Call) → total (serves p) (history s cs) ≡ length ahead → serves p (event (after s cs) c) ≡ 1
-      → tasksOf (event (after s cs) c).answer.released ≡ e.task ∷ []
+      → tasks_of (event (after s cs) c).answer.released ≡ e.task ∷ []

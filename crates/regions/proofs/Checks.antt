@@ -9,30 +9,30 @@ use lib.Dec.{leb}
 use lib.IntN.{ℤ}
 use lib.ListN.{length, get_or, drop, get_or-eq_default}
 use lib.Seq.{drop-cons}
-use Rattle.itron.specs.Codes.{eRsatr, ePar, eObj, eMacv}
-use Rattle.itron.specs.Limits.{addressEnd}
+use Rattle.itron.specs.Codes.{e_rsatr, e_par, e_obj, e_macv}
+use Rattle.itron.specs.Limits.{address_end}
 use Rattle.model.specs.Lists.{at}
-use Rattle.model.specs.State.{Region, noRegion}
-use Rattle.model.specs.Answers.{refuseIf, result_of}
-use Rattle.model.specs.Regions.{end, isArea, last_end, inChain, wishesOk, allows, areaOk, judgeIn}
+use Rattle.model.specs.State.{Region, no_region}
+use Rattle.model.specs.Answers.{refuse_if, result_of}
+use Rattle.model.specs.Regions.{end, is_area, last_end, in_chain, wishes_ok, allows, area_ok, judge_in}
 
 -- ---- ladders of checks, by the values of their tests
 abbrev pub enters : Bool → Bool → Bool → ℤ
-enters attribute numbers place = result_of (refuseIf (not attribute) eRsatr (refuseIf (not numbers) ePar (refuseIf (not place) eObj none)))
+enters attribute numbers place = result_of (refuse_if (not attribute) e_rsatr (refuse_if (not numbers) e_par (refuse_if (not place) e_obj none)))
 
 abbrev pub judges : Bool → Bool → ℤ
-judges inside allowed = result_of (refuseIf (not inside) eObj (refuseIf (not allowed) eMacv none))
+judges inside allowed = result_of (refuse_if (not inside) e_obj (refuse_if (not allowed) e_macv none))
 
 abbrev pub rules : ℤ → ℕ → ℕ → ℕ → Bool → List Region → ℤ
-rules d base size w area regions = result_of (refuseIf (not area) ePar (judgeIn regions d base size w))
+rules d base size w area regions = result_of (refuse_if (not area) e_par (judge_in regions d base size w))
 
 -- ---- the region at an index, and the chain from there on, decide what they find
-pub judged-at : (rs : List Region) (i : ℕ) → i < length rs → (d : ℤ) (base size w : ℕ)
-    → judges (inChain (drop i rs) (base + size)) (allows (get_or rs i noRegion) d w) ≡ result_of (judgeIn (drop i rs) d base size w)
-judged-at rs i l d base size w =
+pub judged_at : (rs : List Region) (i : ℕ) → i < length rs → (d : ℤ) (base size w : ℕ)
+    → judges (in_chain (drop i rs) (base + size)) (allows (get_or rs i no_region) d w) ≡ result_of (judge_in (drop i rs) d base size w)
+judged_at rs i l d base size w =
     subst
-    (λ (m : List Region). judges (inChain m (base + size)) (allows (get_or rs i noRegion) d w) ≡ result_of (judgeIn m d base size w))
-    (sym (drop-cons rs i noRegion l))
+    (λ (m : List Region). judges (in_chain m (base + size)) (allows (get_or rs i no_region) d w) ≡ result_of (judge_in m d base size w))
+    (sym (drop-cons rs i no_region l))
     refl
 
 -- ---- the wishes may be tested before the area
@@ -42,27 +42,27 @@ swap true false z = refl
 swap false true z = refl
 swap false false z = refl
 
-pub request-ok : (base size w : ℕ) → wishesOk w && isArea base size ≡ areaOk base size w
-request-ok base size w = swap (leb 1 size) (wishesOk w) (leb (base + size) addressEnd)
+pub request_ok : (base size w : ℕ) → wishes_ok w && is_area base size ≡ area_ok base size w
+request_ok base size w = swap (leb 1 size) (wishes_ok w) (leb (base + size) address_end)
 
 -- ---- the region entered last
 pub end_none : (rs : List Region) → length rs ≡ 0 → 0 ≡ last_end rs
 end_none [] h = refl
 end_none (r ∷ rs) h = absurd (omega arith)
 
-end-last : (r : Region) (rs : List Region) → end (get_or (r ∷ rs) (length rs) noRegion) ≡ last_end (r ∷ rs)
-end-last r [] = refl
-end-last r (x ∷ rs) = end-last x rs
+end_last : (r : Region) (rs : List Region) → end (get_or (r ∷ rs) (length rs) no_region) ≡ last_end (r ∷ rs)
+end_last r [] = refl
+end_last r (x ∷ rs) = end_last x rs
 
-pub end-at : (rs : List Region) (n : ℕ) → n ≡ length rs → (n ≡ 0 → ⊥) → end (get_or rs (n - 1) noRegion) ≡ last_end rs
-end-at [] n e h = absurd (h e)
-end-at (r ∷ rs) n e h = let k : n - 1 ≡ length rs = omega arith in ap (λ (i : ℕ). end (get_or (r ∷ rs) i noRegion)) k ∙ end-last r rs
+pub end_at : (rs : List Region) (n : ℕ) → n ≡ length rs → (n ≡ 0 → ⊥) → end (get_or rs (n - 1) no_region) ≡ last_end rs
+end_at [] n e h = absurd (h e)
+end_at (r ∷ rs) n e h = let k : n - 1 ≡ length rs = omega arith in ap (λ (i : ℕ). end (get_or (r ∷ rs) i no_region)) k ∙ end_last r rs
 
 -- ---- a region by its number
-pub at_none : (rs : List Region) (n : ℕ) → length rs < n → noRegion ≡ at noRegion rs n
+pub at_none : (rs : List Region) (n : ℕ) → length rs < n → no_region ≡ at no_region rs n
 at_none rs zero h = refl
-at_none rs (suc i) h = sym (get_or-eq_default rs noRegion {n = i} (omega arith))
+at_none rs (suc i) h = sym (get_or-eq_default rs no_region {n = i} (omega arith))
 
-pub at-number : (rs : List Region) (n : ℕ) → (n ≡ 0 → ⊥) → get_or rs (n - 1) noRegion ≡ at noRegion rs n
-at-number rs zero h = absurd (h refl)
-at-number rs (suc i) h = ap (λ (k : ℕ). get_or rs k noRegion) (omega arith)
+pub at_number : (rs : List Region) (n : ℕ) → (n ≡ 0 → ⊥) → get_or rs (n - 1) no_region ≡ at no_region rs n
+at_number rs zero h = absurd (h refl)
+at_number rs (suc i) h = ap (λ (k : ℕ). get_or rs k no_region) (omega arith)

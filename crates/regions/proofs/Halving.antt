@@ -10,10 +10,10 @@ use lib.Dec.{leb}
 use lib.ListN.{get_or}
 use lib.Pow.{pow_pos}
 use borrow.Author.Tests.{leb-true, leb-false}
-use Rattle.itron.specs.Limits.{maxRegions}
+use Rattle.itron.specs.Limits.{max_regions}
 use Rattle.regions.specs.declared.search.Found.TheVariants.{At, Nothing}
-use Rattle.regions.specs.Search.{InOrder, coveredBy, lookup}
-use Rattle.regions.proofs.Searches.{starts-past, ends-before, one-decides}
+use Rattle.regions.specs.Search.{InOrder, covered_by, lookup}
+use Rattle.regions.proofs.Searches.{starts_past, ends_before, one_decides}
 
 module _ (bs ss : List ℕ) (n a : ℕ) where
   -- ---- of n regions w are left from `first` on, or all where those are fewer: those before end at or below the address, those past start above it
@@ -24,7 +24,7 @@ module _ (bs ss : List ℕ) (n a : ℕ) where
     pub before : (k : ℕ) → k < first → get_or bs k 0 + get_or ss k 0 ≤ a
     pub past : (k : ℕ) → first + w ≤ k → k < n → a < get_or bs k 0
 
-  all_left : n ≤ maxRegions → 0 < n → Left 0 maxRegions
+  all_left : n ≤ max_regions → 0 < n → Left 0 max_regions
   all_left f h =
       record { inside = h; all = λ l. refl; within = λ l. l; before = λ k l. absurd (omega arith); past = λ k l l'. absurd (omega arith) }
 
@@ -62,12 +62,12 @@ module _ (bs ss : List ℕ) (n a : ℕ) where
         go false e = lower (leb-false (get_or bs m 0) a e)
 
   -- ---- the one region that is left decides
-  one_left : (first : ℕ) → Left first 1 → lookup bs ss a 0 n ≡ cond (coveredBy (get_or bs first 0) (get_or ss first 0) a) (At first) Nothing
+  one_left : (first : ℕ) → Left first 1 → lookup bs ss a 0 n ≡ cond (covered_by (get_or bs first 0) (get_or ss first 0) a) (At first) Nothing
   one_left first v =
       let i = v.inside in
-      one-decides bs ss a n 0 first (omega arith) (omega arith)
-      (λ k l. ends-before (get_or bs k 0) (get_or ss k 0) a (v.before k l))
-      (λ k l l'. starts-past (get_or bs k 0) (get_or ss k 0) a (v.past k (omega arith) (omega arith)))
+      one_decides bs ss a n 0 first (omega arith) (omega arith)
+      (λ k l. ends_before (get_or bs k 0) (get_or ss k 0) a (v.before k l))
+      (λ k l l'. starts_past (get_or bs k 0) (get_or ss k 0) a (v.past k (omega arith) (omega arith)))
 
 -- ---- what a round does
 module _ {bs ss : List ℕ} {n a first half : ℕ} (v : Left bs ss n a first (half * 2)) (s : 1 ≤ half) where
@@ -79,14 +79,14 @@ module _ {bs ss : List ℕ} {n a first half : ℕ} (v : Left bs ss n a first (ha
 
   module _ (o : InOrder bs ss n) where
     -- twice the half are left
-    pub half-of-these : 2 * half ≤ n → Left bs ss n a (cond (leb (get_or bs (first + half) 0) a) (first + half) first) half
-    half-of-these h =
+    pub half_of_these : 2 * half ≤ n → Left bs ss n a (cond (leb (get_or bs (first + half) 0) a) (first + half) first) half
+    half_of_these h =
         let w = v.within (omega arith) in
         looked bs ss n a o first half (first + half) v s (omega arith) (omega arith) (omega arith) (λ k l l'. omega arith)
 
     -- all are left, and fewer than that
-    pub half-of-all : n < 2 * half → half < n → Left bs ss n a (cond (leb (get_or bs (n - half) 0) a) (n - half) first) half
-    half-of-all h h' =
+    pub half_of_all : n < 2 * half → half < n → Left bs ss n a (cond (leb (get_or bs (n - half) 0) a) (n - half) first) half
+    half_of_all h h' =
         let e = v.all (omega arith) in
         looked bs ss n a o first half (n - half) v s (omega arith) (omega arith) (omega arith) (λ k l l'. absurd (omega arith))
 
@@ -107,30 +107,30 @@ twice round l =
 pub record Halved (bs ss : List ℕ) (n a first half round : ℕ) : Type 0 where
   pub begun : round ≤ rounds
   pub halves : half ≡ width round / 2
-  pub few : half ≤ maxRegions
+  pub few : half ≤ max_regions
   pub left : Left bs ss n a first (width round)
 
 module _ {bs ss : List ℕ} {n a : ℕ} where
-  pub begin : n ≤ maxRegions → 0 < n → Halved bs ss n a 0 (maxRegions / 2) 1
+  pub begin : n ≤ max_regions → 0 < n → Halved bs ss n a 0 (max_regions / 2) 1
   begin f h = record { begun = omega arith; halves = refl; few = omega arith; left = all_left bs ss n a f h }
 
   module _ {first half round : ℕ} (h : Halved bs ss n a first half round) where
-    next-width : round < rounds → half ≡ width (round + 1)
-    next-width l = let e = twice round l in let d = h.halves in omega arith
+    next_width : round < rounds → half ≡ width (round + 1)
+    next_width l = let e = twice round l in let d = h.halves in omega arith
 
     pub some_left : round < rounds → 1 ≤ half
-    some_left l = let e = next-width l in let p = pow_pos (rounds - (round + 1)) in omega arith
+    some_left l = let e = next_width l in let p = pow_pos (rounds - (round + 1)) in omega arith
 
-    pub twice-left : round < rounds → Left bs ss n a first (half * 2)
-    twice-left l =
-        let e : width round ≡ half * 2 = twice round l ∙ ap (λ (w : ℕ). w * 2) (sym (next-width l)) in
+    pub twice_left : round < rounds → Left bs ss n a first (half * 2)
+    twice_left l =
+        let e : width round ≡ half * 2 = twice round l ∙ ap (λ (w : ℕ). w * 2) (sym (next_width l)) in
         subst (Left bs ss n a first) e h.left
 
     pub halve : round < rounds → (first' : ℕ) → Left bs ss n a first' half → Halved bs ss n a first' (half / 2) (round + 1)
     halve l first' v =
-        let e = next-width l in
+        let e = next_width l in
         let f = h.few in
         record { begun = omega arith; halves = ap (λ (w : ℕ). w / 2) e; few = omega arith; left = subst (Left bs ss n a first') e v }
 
-    pub decides : rounds ≤ round → lookup bs ss a 0 n ≡ cond (coveredBy (get_or bs first 0) (get_or ss first 0) a) (At first) Nothing
+    pub decides : rounds ≤ round → lookup bs ss a 0 n ≡ cond (covered_by (get_or bs first 0) (get_or ss first 0) a) (At first) Nothing
     decides l = let e : rounds - round ≡ 0 = omega arith in one_left bs ss n a first (subst (λ (k : ℕ). Left bs ss n a first (2 ^ k)) e h.left)

@@ -1,4 +1,4 @@
--- Laws of `coveredBy` and `lookup`: a search is decided by one region where no other can hold the address, and it finds the region from which the model's `fromHolder` goes on. Assumes nothing.
+-- Laws of `covered_by` and `lookup`: a search is decided by one region where no other can hold the address, and it finds the region from which the model's `from_holder` goes on. Assumes nothing.
 use Prim.Native.Nat.{ℕ, zero, suc, ◌+◌, ◌-◌, ◌≤◌, ◌<◌}
 use native.Mathlib.Omega.{arith}
 use native.Mathlib.Nat.{eq-or-lt_of_le}
@@ -12,94 +12,94 @@ use lib.Seq.{drop-cons}
 use borrow.Author.Tests.{ltb-true, ltb-false, le-leb, lt-leb, le-ltb, lt-ltb}
 use types.Run.{OneOf}
 use denote.Enum.Declared.{tag_of}
-use Rattle.model.specs.State.{Region, noRegion}
-use Rattle.model.specs.Regions.{holds, fromHolder}
+use Rattle.model.specs.State.{Region, no_region}
+use Rattle.model.specs.Regions.{holds, from_holder}
 use Rattle.regions.specs.declared.search.Found.{Found}
 use Rattle.regions.specs.declared.search.Found.TheVariants.{At, Nothing}
 use Rattle.regions.specs.declared.state.Regions.{Regions}
-use Rattle.regions.specs.View.{regionsOf}
+use Rattle.regions.specs.View.{regions_of}
 use Rattle.regions.specs.Held.{Held}
-use Rattle.regions.specs.Search.{coveredBy, lookup, found_from}
+use Rattle.regions.specs.Search.{covered_by, lookup, found_from}
 use Rattle.regions.specs.contracts.search.Found.{the_type as found_type}
-use Rattle.regions.proofs.Cells.{count_of, base-at, size-at}
+use Rattle.regions.proofs.Cells.{count_of, base_at, size_at}
 
 -- ---- an area that starts past an address, or ends before it, does not hold it; one that starts no later does exactly if the distance is less than its size
-pub starts-past : (start size a : ℕ) → a < start → coveredBy start size a ≡ false
-starts-past start size a h = simp (lt-leb start a h)
+pub starts_past : (start size a : ℕ) → a < start → covered_by start size a ≡ false
+starts_past start size a h = simp (lt-leb start a h)
 
-pub ends-before : (start size a : ℕ) → start + size ≤ a → coveredBy start size a ≡ false
-ends-before start size a h = simp (le-leb start a (omega arith), le-ltb a (start + size) h)
+pub ends_before : (start size a : ℕ) → start + size ≤ a → covered_by start size a ≡ false
+ends_before start size a h = simp (le-leb start a (omega arith), le-ltb a (start + size) h)
 
-pub by-distance : (start size a : ℕ) → start ≤ a → ltb (a - start) size ≡ coveredBy start size a
-by-distance start size a h = go (ltb (a - start) size) refl
+pub by_distance : (start size a : ℕ) → start ≤ a → ltb (a - start) size ≡ covered_by start size a
+by_distance start size a h = go (ltb (a - start) size) refl
   where
-    go : (b : Bool) → ltb (a - start) size ≡ b → b ≡ coveredBy start size a
+    go : (b : Bool) → ltb (a - start) size ≡ b → b ≡ covered_by start size a
     go true e = let l = ltb-true (a - start) size e in sym (simp (le-leb start a h, lt-ltb a (start + size) (omega arith)))
     go false e = let l = ltb-false (a - start) size e in sym (simp (le-leb start a h, le-ltb a (start + size) (omega arith)))
 
 module _ (bs ss : List ℕ) (a : ℕ) where
   abbrev test : ℕ → Bool
-  test i = coveredBy (get_or bs i 0) (get_or ss i 0) a
+  test i = covered_by (get_or bs i 0) (get_or ss i 0) a
 
   -- ---- no region holds the address where there is none
-  pub no-region : (n i : ℕ) → n ≡ 0 → lookup bs ss a i n ≡ Nothing
+  pub no_region_lem : (n i : ℕ) → n ≡ 0 → lookup bs ss a i n ≡ Nothing
   unfolding lookup
-  no-region n i e = ap (lookup bs ss a i) e
+  no_region_lem n i e = ap (lookup bs ss a i) e
 
   -- ---- where no region but m can hold the address, m decides
-  none-holds : (n i : ℕ) → ((k : ℕ) → i ≤ k → k < i + n → test k ≡ false) → lookup bs ss a i n ≡ Nothing
+  none_holds : (n i : ℕ) → ((k : ℕ) → i ≤ k → k < i + n → test k ≡ false) → lookup bs ss a i n ≡ Nothing
   unfolding lookup
-  none-holds zero i h = refl
-  none-holds (suc n) i h =
+  none_holds zero i h = refl
+  none_holds (suc n) i h =
       ap (λ (b : Bool). cond b (At i) (lookup bs ss a (suc i) n)) (h i (omega arith) (omega arith))
-      ∙ none-holds n (suc i) (λ k l l'. h k (omega arith) (omega arith))
+      ∙ none_holds n (suc i) (λ k l l'. h k (omega arith) (omega arith))
 
-  pub one-decides : (n i m : ℕ) → i ≤ m → m < i + n → ((k : ℕ) → k < m → test k ≡ false) → ((k : ℕ) → m < k → k < i + n → test k ≡ false)
+  pub one_decides : (n i m : ℕ) → i ≤ m → m < i + n → ((k : ℕ) → k < m → test k ≡ false) → ((k : ℕ) → m < k → k < i + n → test k ≡ false)
       → lookup bs ss a i n ≡ cond (test m) (At m) Nothing
   unfolding lookup
-  one-decides zero i m l l' f g = absurd (omega arith)
-  one-decides (suc n) i m l l' f g =
+  one_decides zero i m l l' f g = absurd (omega arith)
+  one_decides (suc n) i m l l' f g =
       ⊎_elim
       (λ e.
-      ap (cond (test i) (At i)) (none-holds n (suc i) (λ k h h'. g k (omega arith) (omega arith)))
+      ap (cond (test i) (At i)) (none_holds n (suc i) (λ k h h'. g k (omega arith) (omega arith)))
       ∙ ap (λ (k : ℕ). cond (test k) (At k) Nothing) e)
       (λ h.
       ap (λ (b : Bool). cond b (At i) (lookup bs ss a (suc i) n)) (f i h)
-      ∙ one-decides n (suc i) m (omega arith) (omega arith) f (λ k h' h''. g k h' (omega arith)))
+      ∙ one_decides n (suc i) m (omega arith) (omega arith) f (λ k h' h''. g k h' (omega arith)))
       (eq-or-lt_of_le l)
 
   -- ---- what is found is one of them
-  pub lookup-low : (n i k : ℕ) → lookup bs ss a i n ≡ At k → k < i + n
+  pub lookup_low : (n i k : ℕ) → lookup bs ss a i n ≡ At k → k < i + n
   unfolding lookup
-  lookup-low zero i k h = absurd (let z : ◌≡◌ {A = ℕ} 0 1 = cc in omega arith)
-  lookup-low (suc n) i k h = go (test i) h (lookup-low n (suc i) k)
+  lookup_low zero i k h = absurd (let z : ◌≡◌ {A = ℕ} 0 1 = cc in omega arith)
+  lookup_low (suc n) i k h = go (test i) h (lookup_low n (suc i) k)
     where
       go : (b : Bool) → cond b (At i) (lookup bs ss a (suc i) n) ≡ At k → (lookup bs ss a (suc i) n ≡ At k → k < suc i + n) → k < i + suc n
       go true h' ih = let e : i ≡ k = cc in omega arith
       go false h' ih = let l = ih h' in omega arith
 
   -- ---- and it is the model's
-  module _ (rs : List Region) (b : (i : ℕ) → get_or bs i 0 ≡ (get_or rs i noRegion).base) (z : (i : ℕ) → get_or ss i 0 ≡ (get_or rs i noRegion).size) where
-    found-from : (n i : ℕ) → i + n ≡ length rs → fromHolder (drop i rs) a ≡ found_from rs (lookup bs ss a i n)
-    unfolding fromHolder lookup
-    found-from zero i e = ap (λ (l : List Region). fromHolder l a) (drop_of_length-le rs {i = i} (omega arith))
-    found-from (suc n) i e =
-        let x = get_or rs i noRegion in
-        ap (λ (l : List Region). fromHolder l a) (drop-cons rs i noRegion (omega arith))
-        ∙ go (holds a x) (drop-cons rs i noRegion (omega arith)) (found-from n (suc i) (omega arith))
-        ∙ (let p = b i in let q = z i in λ j. found_from rs (cond (coveredBy (sym p j) (sym q j) a) (At i) (lookup bs ss a (suc i) n)))
+  module _ (rs : List Region) (b : (i : ℕ) → get_or bs i 0 ≡ (get_or rs i no_region).base) (z : (i : ℕ) → get_or ss i 0 ≡ (get_or rs i no_region).size) where
+    found_from_lem : (n i : ℕ) → i + n ≡ length rs → from_holder (drop i rs) a ≡ found_from rs (lookup bs ss a i n)
+    unfolding from_holder lookup
+    found_from_lem zero i e = ap (λ (l : List Region). from_holder l a) (drop_of_length-le rs {i = i} (omega arith))
+    found_from_lem (suc n) i e =
+        let x = get_or rs i no_region in
+        ap (λ (l : List Region). from_holder l a) (drop-cons rs i no_region (omega arith))
+        ∙ go (holds a x) (drop-cons rs i no_region (omega arith)) (found_from_lem n (suc i) (omega arith))
+        ∙ (let p = b i in let q = z i in λ j. found_from rs (cond (covered_by (sym p j) (sym q j) a) (At i) (lookup bs ss a (suc i) n)))
       where
-        go : (t : Bool) → drop i rs ≡ get_or rs i noRegion ∷ drop (suc i) rs → fromHolder (drop (suc i) rs) a ≡ found_from rs (lookup bs ss a (suc i) n)
-            → cond t (get_or rs i noRegion ∷ drop (suc i) rs) (fromHolder (drop (suc i) rs) a) ≡ found_from rs (cond t (At i) (lookup bs ss a (suc i) n))
+        go : (t : Bool) → drop i rs ≡ get_or rs i no_region ∷ drop (suc i) rs → from_holder (drop (suc i) rs) a ≡ found_from rs (lookup bs ss a (suc i) n)
+            → cond t (get_or rs i no_region ∷ drop (suc i) rs) (from_holder (drop (suc i) rs) a) ≡ found_from rs (cond t (At i) (lookup bs ss a (suc i) n))
         go true d ih = sym d
         go false d ih = ih
 
 -- the search over the arrays finds the region that holds an address
-pub finds-holder : {r : Regions} → Held r → (a : ℕ) → fromHolder (regionsOf r) a ≡ found_from (regionsOf r) (lookup r.bases r.sizes a 0 r.count)
-finds-holder {r} h a =
-    found-from r.bases r.sizes a (regionsOf r) (base-at h) (size-at h) r.count 0 (let e = count_of h in omega arith)
+pub finds_holder : {r : Regions} → Held r → (a : ℕ) → from_holder (regions_of r) a ≡ found_from (regions_of r) (lookup r.bases r.sizes a 0 r.count)
+finds_holder {r} h a =
+    found_from_lem r.bases r.sizes a (regions_of r) (base_at h) (size_at h) r.count 0 (let e = count_of h in omega arith)
 
 -- an answer that matched `Nothing`
-pub is-nothing : (f : Found) → OneOf (1 ∷ []) (tag_of found_type f) → f ≡ Nothing
-is-nothing Nothing k = refl
-is-nothing (At i) k = absurd (omega arith)
+pub is_nothing : (f : Found) → OneOf (1 ∷ []) (tag_of found_type f) → f ≡ Nothing
+is_nothing Nothing k = refl
+is_nothing (At i) k = absurd (omega arith)

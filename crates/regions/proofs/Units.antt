@@ -3,13 +3,13 @@ use Prim.Native.Nat.{ℕ, zero, suc, ◌+◌, ◌-◌, ◌*◌, ◌^◌, ◌/◌
 use native.Mathlib.Omega.{arith}
 use native.Mathlib.Nat.{pow-suc}
 use mathlib.Core.Path.{◌≡◌, refl, sym, ap, ◌∙◌}
-use mathlib.Core.Bool.{Bool, true, false, ◌&&◌, ◌||◌, and-true, and-false, or-false}
+use mathlib.Core.Bool.{Bool, true, false, ◌&&◌, ◌||◌, and-true, and-false, or_false}
 use lib.Count.{ones, ones_step, ones_cat}
 use lib.Dec.{eqb, leb}
 use lib.Pow.{pow_pos}
 use borrow.Author.Tests.{leb-true, leb-false, eq-eqb, ne_eqb, eqb-true, eqb-false}
-use Rattle.itron.specs.Limits.{maxUnitPower}
-use Rattle.model.specs.Units.{isPowerTo, unitOk}
+use Rattle.itron.specs.Limits.{max_unit_power}
+use Rattle.model.specs.Units.{is_power_to, unit_ok}
 
 -- a number without bits is 0
 no_ones : (k r : ℕ) → r < 2 ^ k → ones r ≡ 0 → r ≡ 0
@@ -20,9 +20,9 @@ no_ones (suc k) r h e =
     omega arith
 
 -- what is above 2^e is none of 2^0 to 2^e
-above-powers : (e u : ℕ) → 2 ^ e < u → isPowerTo e u ≡ false
-above-powers zero u h = ne_eqb u (2 ^ zero) (omega arith)
-above-powers (suc e) u h = rw (above-powers e u (omega (arith, pow-suc 2 e, pow_pos e)), ne_eqb u (2 ^ suc e) (omega arith)) refl
+above_powers : (e u : ℕ) → 2 ^ e < u → is_power_to e u ≡ false
+above_powers zero u h = ne_eqb u (2 ^ zero) (omega arith)
+above_powers (suc e) u h = rw (above_powers e u (omega (arith, pow-suc 2 e, pow_pos e)), ne_eqb u (2 ^ suc e) (omega arith)) refl
 
 -- one power more: the highest bit and the rest
 module _ (e u : ℕ) (h : u < 2 ^ suc (suc e)) where
@@ -38,16 +38,16 @@ module _ (e u : ℕ) (h : u < 2 ^ suc (suc e)) where
   top true q l = let z : rest ≡ 0 = omega (arith, eqb-true u (2 ^ suc e) q) in eq-eqb (ones u) 1 (parts l ∙ ap (λ (x : ℕ). 1 + ones x) z)
   top false q l = ne_eqb (ones u) 1 (λ o. eqb-false u (2 ^ suc e) q (omega (arith, l, no_ones (suc e) rest (omega (arith, pow-suc 2 (suc e))) (omega (arith, o, parts l)))))
 
-  next : (u < 2 ^ suc e → eqb (ones u) 1 ≡ isPowerTo e u) → (b : Bool) → leb (2 ^ suc e) u ≡ b → eqb (ones u) 1 ≡ isPowerTo e u || eqb u (2 ^ suc e)
+  next : (u < 2 ^ suc e → eqb (ones u) 1 ≡ is_power_to e u) → (b : Bool) → leb (2 ^ suc e) u ≡ b → eqb (ones u) 1 ≡ is_power_to e u || eqb u (2 ^ suc e)
   next f true q =
       let l = leb-true (2 ^ suc e) u q in
-      top (eqb u (2 ^ suc e)) refl l ∙ ap (λ (b : Bool). b || eqb u (2 ^ suc e)) (sym (above-powers e u (omega (arith, pow-suc 2 e, pow_pos e))))
+      top (eqb u (2 ^ suc e)) refl l ∙ ap (λ (b : Bool). b || eqb u (2 ^ suc e)) (sym (above_powers e u (omega (arith, pow-suc 2 e, pow_pos e))))
   next f false q =
       let l = leb-false (2 ^ suc e) u q in
-      f l ∙ sym (or-false (isPowerTo e u)) ∙ ap (λ (b : Bool). isPowerTo e u || b) (sym (ne_eqb u (2 ^ suc e) (omega arith)))
+      f l ∙ sym (or_false (is_power_to e u)) ∙ ap (λ (b : Bool). is_power_to e u || b) (sym (ne_eqb u (2 ^ suc e) (omega arith)))
 
 -- below 2^(e+1), a number with one bit is one of 2^0 to 2^e
-one_bit : (e u : ℕ) → u < 2 ^ suc e → eqb (ones u) 1 ≡ isPowerTo e u
+one_bit : (e u : ℕ) → u < 2 ^ suc e → eqb (ones u) 1 ≡ is_power_to e u
 unfolding ones
 one_bit zero zero h = refl
 one_bit zero (suc zero) h = refl
@@ -55,10 +55,10 @@ one_bit zero (suc (suc u)) h = absurd (omega arith)
 one_bit (suc e) u h = next e u h (one_bit e u) (leb (2 ^ suc e) u) refl
 
 -- the test of the code
-pub unit-bit : (u : ℕ) → eqb (ones u) 1 && leb u (2 ^ maxUnitPower) ≡ unitOk u
-unfolding unitOk
-unit-bit u = go (leb u (2 ^ maxUnitPower)) refl
+pub unit_bit : (u : ℕ) → eqb (ones u) 1 && leb u (2 ^ max_unit_power) ≡ unit_ok u
+unfolding unit_ok
+unit_bit u = go (leb u (2 ^ max_unit_power)) refl
   where
-    go : (b : Bool) → leb u (2 ^ maxUnitPower) ≡ b → eqb (ones u) 1 && b ≡ isPowerTo maxUnitPower u
-    go true q = and-true (eqb (ones u) 1) ∙ one_bit maxUnitPower u (omega (arith, leb-true u (2 ^ maxUnitPower) q))
-    go false q = and-false (eqb (ones u) 1) ∙ sym (above-powers maxUnitPower u (leb-false u (2 ^ maxUnitPower) q))
+    go : (b : Bool) → leb u (2 ^ max_unit_power) ≡ b → eqb (ones u) 1 && b ≡ is_power_to max_unit_power u
+    go true q = and-true (eqb (ones u) 1) ∙ one_bit max_unit_power u (omega (arith, leb-true u (2 ^ max_unit_power) q))
+    go false q = and-false (eqb (ones u) 1) ∙ sym (above_powers max_unit_power u (leb-false u (2 ^ max_unit_power) q))

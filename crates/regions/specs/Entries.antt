@@ -1,14 +1,14 @@
 -- A region's entry (document 01, "Building the table", checks 4 to 6). Definitions only.
 use Rattle.std.specs.Prelude.{ℕ, not, List}
 use Rattle.std.proofs.Math.Option.{Option, none}
-use Rattle.itron.specs.Codes.{Err, eRsatr, ePar, eObj}
+use Rattle.itron.specs.Codes.{Err, e_rsatr, e_par, e_obj}
 use Rattle.model.specs.State.{Region}
-use Rattle.model.specs.Answers.{refuseIf}
-use Rattle.model.specs.Regions.{attributeOk, numbersOk, placeOk}
+use Rattle.model.specs.Answers.{refuse_if}
+use Rattle.model.specs.Regions.{attribute_ok, numbers_ok, place_ok}
 
 -- first hit wins: attribute E_RSATR, numbers E_PAR, starting below the end of the region before E_OBJ
-abbrev pub entryCheck : ℕ → List Region → ℕ → ℕ → ℕ → Option Err
-entryCheck unit rs attribute base size =
-    refuseIf (not (attributeOk attribute)) eRsatr
-    (refuseIf (not (numbersOk unit base size)) ePar
-    (refuseIf (not (placeOk rs base)) eObj none))
+abbrev pub entry_check : ℕ → List Region → ℕ → ℕ → ℕ → Option Err
+entry_check unit rs attribute base size =
+    refuse_if (not (attribute_ok attribute)) e_rsatr
+    (refuse_if (not (numbers_ok unit base size)) e_par
+    (refuse_if (not (place_ok rs base)) e_obj none))

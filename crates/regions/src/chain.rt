@@ -1,7 +1,7 @@
 // Regions that touch and are equal count as one for the verdict (document 02, T-09).
 ghost use Rattle.std.specs.Prelude.{◌≡◌, drop};
-ghost use Rattle.model.specs.Regions.{touches, isEqual, inChain};
-ghost use Rattle.regions.specs.View.{regionsOf, shownAs};
+ghost use Rattle.model.specs.Regions.{touches, is_equal, in_chain};
+ghost use Rattle.regions.specs.View.{regions_of, shown_as};
 ghost use Rattle.regions.specs.Held.{Indexed};
 
 use crate::state::{RegionInfo, Regions};
@@ -10,14 +10,14 @@ use access::domain::is_same;
 impl RegionInfo {
     // Whether the next region begins where this one ends.
     pub(crate) fn touches(self, next: RegionInfo) -> bool
-        ensures { result ≡ touches (shownAs self) (shownAs next) }
+        ensures { result ≡ touches (shown_as self) (shown_as next) }
     {
         self.end() == next.base as u64
     }
 
     // Whether another region has the same domain, attribute and vector.
     pub(crate) fn equals(self, other: RegionInfo) -> bool
-        ensures { result ≡ isEqual (shownAs self) (shownAs other) }
+        ensures { result ≡ is_equal (shown_as self) (shown_as other) }
     {
         is_same(self.domain, other.domain)
             & (self.attribute == other.attribute)
@@ -30,7 +30,7 @@ impl Regions {
     // Most areas end in the region that they start in, and need no walk.
     pub(crate) fn reaches(self, index: usize, first: RegionInfo, end: u64) -> bool
         requires { Indexed self index first }
-        ensures { result ≡ inChain (drop index (regionsOf self)) end }
+        ensures { result ≡ in_chain (drop index (regions_of self)) end }
     {
         if end <= first.end() {
             return true;
@@ -41,7 +41,7 @@ impl Regions {
     // The same, from region to region; each is read in place, since `at` would take a copy of all regions.
     pub(crate) fn walk(self, index: usize, first: RegionInfo, end: u64) -> bool
         requires { Indexed self index first }
-        ensures { result ≡ inChain (drop index (regionsOf self)) end }
+        ensures { result ≡ in_chain (drop index (regions_of self)) end }
     {
         let count = self.count;
         let mut at = index;

@@ -1,14 +1,14 @@
 // Region entries (document 01, "Building the table").
 ghost use Rattle.std.specs.Prelude.{◌≡◌, ◌<◌, [], ◌∷◌, ◌++◌, length};
-ghost use Rattle.itron.specs.Limits.{maxRegions};
+ghost use Rattle.itron.specs.Limits.{max_regions};
 ghost use Rattle.model.specs.Answers.{result_of};
-ghost use Rattle.model.specs.Regions.{attributeOk, isArea, last_end};
-ghost use Rattle.regions.specs.View.{regionsOf};
-ghost use Rattle.regions.specs.Form.{regionsAs};
+ghost use Rattle.model.specs.Regions.{attribute_ok, is_area, last_end};
+ghost use Rattle.regions.specs.View.{regions_of};
+ghost use Rattle.regions.specs.Form.{regions_as};
 ghost use Rattle.regions.specs.Held.{Held};
 ghost use Rattle.access.specs.declared.vector.Choice.TheVariants.{Given};
-ghost use Rattle.model.specs.Regions.{newRegion};
-ghost use Rattle.regions.specs.Entries.{entryCheck};
+ghost use Rattle.model.specs.Regions.{new_region};
+ghost use Rattle.regions.specs.Entries.{entry_check};
 
 use crate::flag::{EXECUTABLE, NO_WRITE};
 use crate::state::{Protection, Regions};
@@ -28,7 +28,7 @@ pub struct RegionEntry {
 
 // Whether an attribute has no bits but no-write and execute.
 pub(crate) fn is_attribute(attribute: u32) -> bool
-    ensures { result ≡ attributeOk attribute }
+    ensures { result ≡ attribute_ok attribute }
 {
     (attribute == 0)
         | (attribute == NO_WRITE)
@@ -38,7 +38,7 @@ pub(crate) fn is_attribute(attribute: u32) -> bool
 
 // Whether an area has bytes and ends within the addresses. The sum is made in 64 bits.
 pub(crate) fn is_area(base: u32, size: u32) -> bool
-    ensures { result ≡ isArea base size }
+    ensures { result ≡ is_area base size }
 {
     (1 <= size) & (base as u64 + size as u64 <= ADDRESS_END)
 }
@@ -47,7 +47,7 @@ impl Regions {
     // The end of the region entered last, 0 where there is none.
     pub(crate) fn last_end(self) -> u64
         requires { Held self }
-        ensures { result ≡ last_end (regionsOf self) }
+        ensures { result ≡ last_end (regions_of self) }
     {
         let count = self.count;
         if count == 0 {
@@ -59,7 +59,7 @@ impl Regions {
     // The code of an entry's attribute and numbers, by the checks of document 01 in their order.
     pub fn check(self, attribute: u32, base: u32, size: u32) -> i32
         requires { Held self }
-        ensures { result ≡ result_of (entryCheck self.unit (regionsOf self) attribute base size) }
+        ensures { result ≡ result_of (entry_check self.unit (regions_of self) attribute base size) }
     {
         let known = is_attribute(attribute);
         let fits = is_area(base, size) & is_whole(self.unit, base, size);
@@ -85,8 +85,8 @@ impl Regions {
         size: u32,
         vector: Vector,
     ) -> Regions
-        requires { Held self × (length (regionsOf self) < maxRegions) }
-        ensures { result ≡ regionsAs self.unit (regionsOf self ++ (newRegion domain attribute base size (Given vector) ∷ [])) }
+        requires { Held self × (length (regions_of self) < max_regions) }
+        ensures { result ≡ regions_as self.unit (regions_of self ++ (new_region domain attribute base size (Given vector) ∷ [])) }
     {
         let index = self.count;
         self.bases[index] = base;
@@ -103,8 +103,8 @@ impl Regions {
 
     // One region more, as given, its default vector resolved.
     pub fn register(self, given: RegionEntry) -> Regions
-        requires { Held self × (length (regionsOf self) < maxRegions) }
-        ensures { result ≡ regionsAs self.unit (regionsOf self ++ (newRegion given.domain given.attribute given.base given.size given.vector ∷ [])) }
+        requires { Held self × (length (regions_of self) < max_regions) }
+        ensures { result ≡ regions_as self.unit (regions_of self ++ (new_region given.domain given.attribute given.base given.size given.vector ∷ [])) }
     {
         let choice = given.vector;
         let vector = choice.resolve(given.domain);

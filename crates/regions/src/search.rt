@@ -1,6 +1,6 @@
 // The search for the region that holds an address.
 ghost use Rattle.std.specs.Prelude.{◌≡◌, cond, ◌≤◌, ◌<◌, leb, length, get_or};
-ghost use Rattle.regions.specs.Search.{InOrder, coveredBy, lookup};
+ghost use Rattle.regions.specs.Search.{InOrder, covered_by, lookup};
 
 use itron::limit::MAX_REGIONS;
 
@@ -16,7 +16,7 @@ const ROUNDS: u32 = 7;
 
 // Whether an area holds an address. No sum is made, since an end may be 2^32.
 pub(crate) fn covers(start: u32, size: u32, address: u32) -> bool
-    ensures { result ≡ coveredBy start size address }
+    ensures { result ≡ covered_by start size address }
 {
     if address < start {
         return false;

@@ -1,10 +1,10 @@
 // The regions that the kernel's state holds, in the order of their entries, which is that of their addresses, and the protection unit.
 ghost use Rattle.std.specs.Prelude.{◌≡◌, ◌<◌, [], length, get_or};
 ghost use Rattle.model.specs.Lists.{at};
-ghost use Rattle.model.specs.State.{noRegion};
+ghost use Rattle.model.specs.State.{no_region};
 ghost use Rattle.model.specs.Regions.{end};
-ghost use Rattle.regions.specs.View.{regionWith, regionsOf, infoOf, shownAs};
-ghost use Rattle.regions.specs.Form.{regionsAs};
+ghost use Rattle.regions.specs.View.{region_with, regions_of, info_of, shown_as};
+ghost use Rattle.regions.specs.Form.{regions_as};
 ghost use Rattle.regions.specs.Held.{Held};
 
 use access::vector::Vector;
@@ -58,7 +58,7 @@ impl RegionInfo {
 
     // A region by its place and its protection.
     pub(crate) fn of(base: u32, size: u32, protection: Protection) -> RegionInfo
-        ensures { result ≡ infoOf (regionWith base size protection) }
+        ensures { result ≡ info_of (region_with base size protection) }
     {
         let vector = protection.vector;
         RegionInfo {
@@ -72,7 +72,7 @@ impl RegionInfo {
 
     // The first address past the region, in 64 bits since it may be 2^32.
     pub(crate) fn end(self) -> u64
-        ensures { result ≡ end (shownAs self) }
+        ensures { result ≡ end (shown_as self) }
     {
         self.base as u64 + self.size as u64
     }
@@ -80,7 +80,7 @@ impl RegionInfo {
 
 impl Regions {
     pub fn empty(unit: u32) -> Regions
-        ensures { result ≡ regionsAs unit [] }
+        ensures { result ≡ regions_as unit [] }
     {
         Regions {
             count: 0,
@@ -93,7 +93,7 @@ impl Regions {
 
     pub fn len(self) -> usize
         requires { Held self }
-        ensures { result ≡ length (regionsOf self) }
+        ensures { result ≡ length (regions_of self) }
     {
         self.count
     }
@@ -107,7 +107,7 @@ impl Regions {
     // The region at an index; an index is a number less 1.
     pub(crate) fn at(self, index: usize) -> RegionInfo
         requires { Held self × (index < self.count) }
-        ensures { result ≡ infoOf (get_or (regionsOf self) index noRegion) }
+        ensures { result ≡ info_of (get_or (regions_of self) index no_region) }
     {
         let protection = self.protections[index];
         RegionInfo::of(self.bases[index], self.sizes[index], protection)
@@ -116,7 +116,7 @@ impl Regions {
     // The region of a number, whatever the number.
     pub fn region(self, number: usize) -> RegionInfo
         requires { Held self }
-        ensures { result ≡ infoOf (at noRegion (regionsOf self) number) }
+        ensures { result ≡ info_of (at no_region (regions_of self) number) }
     {
         if number == 0 {
             return RegionInfo::NONE;

@@ -1,12 +1,12 @@
 // The protection unit (document 02, T-06).
 ghost use Rattle.std.specs.Prelude.{◌≡◌, ◌<◌};
-ghost use Rattle.model.specs.Units.{unitOk, is_whole};
+ghost use Rattle.model.specs.Units.{unit_ok, is_whole};
 
 use itron::limit::MAX_UNIT;
 
 // Whether a table may have this unit. A power of two has one bit.
 pub fn is_unit(unit: u32) -> bool
-    ensures { result ≡ unitOk unit }
+    ensures { result ≡ unit_ok unit }
 {
     (u32::count_ones(unit) == 1) & (unit <= MAX_UNIT)
 }

@@ -1,8 +1,8 @@
 // The memory verdict on a closed table for a known domain (document 01, "The memory verdict").
 ghost use Rattle.std.specs.Prelude.{◌≡◌, drop};
 ghost use Rattle.model.specs.Answers.{result_of};
-ghost use Rattle.model.specs.Regions.{may_write, may_read, mayExecute, grants, allows, wishesOk, areaOk, judgeIn, judge};
-ghost use Rattle.regions.specs.View.{regionsOf, shownAs};
+ghost use Rattle.model.specs.Regions.{may_write, may_read, may_execute, grants, allows, wishes_ok, area_ok, judge_in, judge};
+ghost use Rattle.regions.specs.View.{regions_of, shown_as};
 ghost use Rattle.regions.specs.Held.{Held, Indexed};
 
 use crate::entry::is_area;
@@ -14,14 +14,14 @@ use itron::code::{E_MACV, E_NOEXS, E_OBJ, E_OK, E_PAR};
 
 // Whether there is a wish and no unknown one.
 pub(crate) fn is_wish(wishes: u32) -> bool
-    ensures { result ≡ wishesOk wishes }
+    ensures { result ≡ wishes_ok wishes }
 {
     (1 <= wishes) & (wishes <= WRITE + READ + EXECUTE)
 }
 
 // Whether there is something to judge: an area and a wish.
 pub(crate) fn is_request(base: u32, size: u32, wishes: u32) -> bool
-    ensures { result ≡ areaOk base size wishes }
+    ensures { result ≡ area_ok base size wishes }
 {
     is_wish(wishes) & is_area(base, size)
 }
@@ -38,26 +38,26 @@ pub(crate) fn granted(wanted: bool, may: bool) -> bool
 
 impl RegionInfo {
     pub(crate) fn may_write(self, domain: i32) -> bool
-        ensures { result ≡ may_write (shownAs self) domain }
+        ensures { result ≡ may_write (shown_as self) domain }
     {
         !has(self.attribute, NO_WRITE) & admits(self.vector.normal1, domain)
     }
 
     pub(crate) fn may_read(self, domain: i32) -> bool
-        ensures { result ≡ may_read (shownAs self) domain }
+        ensures { result ≡ may_read (shown_as self) domain }
     {
         admits(self.vector.normal2, domain)
     }
 
     pub(crate) fn may_execute(self, domain: i32) -> bool
-        ensures { result ≡ mayExecute (shownAs self) domain }
+        ensures { result ≡ may_execute (shown_as self) domain }
     {
         has(self.attribute, EXECUTABLE) & admits(self.vector.normal2, domain)
     }
 
     // Whether every wish is granted.
     pub(crate) fn allows(self, domain: i32, wishes: u32) -> bool
-        ensures { result ≡ allows (shownAs self) domain wishes }
+        ensures { result ≡ allows (shown_as self) domain wishes }
     {
         let write = granted(has(wishes, WRITE), self.may_write(domain));
         let read = granted(has(wishes, READ), self.may_read(domain));
@@ -78,7 +78,7 @@ impl Regions {
         wishes: u32,
     ) -> i32
         requires { Indexed self index region }
-        ensures { result ≡ result_of (judgeIn (drop index (regionsOf self)) domain base size wishes) }
+        ensures { result ≡ result_of (judge_in (drop index (regions_of self)) domain base size wishes) }
     {
         let inside = self.reaches(index, region, base as u64 + size as u64);
         let allowed = region.allows(domain, wishes);
@@ -94,7 +94,7 @@ impl Regions {
     // The code of the verdict, whatever is asked; the region is read in place, since `at` would take a copy of all regions.
     pub fn judge(self, domain: i32, base: u32, size: u32, wishes: u32) -> i32
         requires { Held self }
-        ensures { result ≡ result_of (judge (regionsOf self) domain base size wishes) }
+        ensures { result ≡ result_of (judge (regions_of self) domain base size wishes) }
     {
         if !is_request(base, size, wishes) {
             return E_PAR;

@@ -9,11 +9,11 @@ use lib.Dec.{leb}
 use types.Run.{OneOf}
 use denote.Enum.Declared.{tag_of}
 use borrow.Author.Tests.{le-leb, lt-leb}
-use Rattle.itron.specs.Codes.{eQovr, number_of}
+use Rattle.itron.specs.Codes.{e_qovr, number_of}
 use Rattle.model.specs.Lists.{put}
 use Rattle.model.specs.State.{TaskEntry, Waiter, place}
-use Rattle.model.specs.Waits.{byPriority, orWaits}
-use Rattle.model.specs.Semaphores.{actOf, does, semIn, setCount, waitersOf, signalBy, onSignal, acquireBy, onAcquire}
+use Rattle.model.specs.Waits.{by_priority, or_waits}
+use Rattle.model.specs.Semaphores.{act_of, does, sem_in, set_count, waiters_of, signal_by, on_signal, acquire_by, on_acquire}
 use Rattle.model.specs.declared.sem.Semaphore.{Semaphore}
 use Rattle.model.specs.declared.sem.SemaphoreCall.{SemaphoreCall}
 use Rattle.model.specs.declared.sem.SemaphoreCall.TheVariants.{Signal as signal, Acquire as acquire}
@@ -30,87 +30,87 @@ use Rattle.model.specs.declared.check.Check.TheVariants.{Admitted}
 use Rattle.tasks.specs.declared.state.Tasks.{Tasks}
 use Rattle.tasks.specs.declared.task.Wait.TheVariants.{OnSem}
 use Rattle.tasks.specs.declared.wait.Ended.{Ended}
-use Rattle.tasks.specs.View.{entriesOf, waitsOf, waiterOf}
+use Rattle.tasks.specs.View.{entries_of, waits_of, waiter_of}
 use Rattle.tasks.specs.Held as TasksHeld
-use Rattle.tasks.specs.Ends.{wokenOf, ended_of}
+use Rattle.tasks.specs.Ends.{woken_of, ended_of}
 use Rattle.tasks.proofs.Firsts.{Waits}
-use Rattle.tasks.proofs.Rooms.{gives-by, refuses-by, wakes-by, waits-by}
+use Rattle.tasks.proofs.Rooms.{gives_by, refuses_by, wakes_by, waits_by}
 use Rattle.semaphore.specs.declared.state.Semaphores.{Semaphores}
 use Rattle.semaphore.specs.declared.call.Effect.{Effect}
-use Rattle.semaphore.specs.View.{semsOf}
-use Rattle.semaphore.specs.Form.{semsAs}
+use Rattle.semaphore.specs.View.{sems_of}
+use Rattle.semaphore.specs.Form.{sems_as}
 use Rattle.semaphore.specs.Held.{Held}
-use Rattle.semaphore.specs.Effects.{acted, effectAs, refusedWith, doneWith, endedWith}
+use Rattle.semaphore.specs.Effects.{acted, effect_as, refused_with, done_with, ended_with}
 
 abbrev pub effect : Reply → Info → Tasks → Semaphores → Effect
 effect r i t s = record { reply = r; info = i; tasks = t; semaphores = s }
 
-abbrev withCount : Semaphore → ℕ → Semaphore
-withCount x n = record { domain = x.domain; attribute = x.attribute; max = x.max; count = n; vector = x.vector }
+abbrev with_count : Semaphore → ℕ → Semaphore
+with_count x n = record { domain = x.domain; attribute = x.attribute; max = x.max; count = n; vector = x.vector }
 
 module _ {t : Tasks} {s : Semaphores} (ht : TasksHeld.Held t) (h : Held s) (k : ℕ) where
   abbrev es : List TaskEntry
-  es = entriesOf t
+  es = entries_of t
 
   abbrev ws : List Waiter
-  ws = waitsOf t
+  ws = waits_of t
 
   abbrev xs : List Semaphore
-  xs = semsOf s
+  xs = sems_of s
 
   abbrev full : Semaphore → Bool
   full x = leb x.max x.count
 
-  pub signal-wakes : {i w : ℕ} → Waits t (byPriority (semIn xs (suc k)).attribute) (place onSem (suc k)) i w → (e : Ended) → e ≡ wokenOf es ws i 0 0 → endedWith e s ≡ effectAs es (onSignal es ws xs (suc k))
-  signal-wakes y e q =
-      wakes-by semsAs effect ht h.form y 0 0 e q
-      ∙ ap (λ (l : List Waiter). effectAs es (signalBy ws xs (suc k) l (full (semIn xs (suc k))))) (sym y.list)
+  pub signal_wakes_lem : {i w : ℕ} → Waits t (by_priority (sem_in xs (suc k)).attribute) (place onSem (suc k)) i w → (e : Ended) → e ≡ woken_of es ws i 0 0 → ended_with e s ≡ effect_as es (on_signal es ws xs (suc k))
+  signal_wakes_lem y e q =
+      wakes_by sems_as effect ht h.form y 0 0 e q
+      ∙ ap (λ (l : List Waiter). effect_as es (signal_by ws xs (suc k) l (full (sem_in xs (suc k))))) (sym y.list)
 
-  module _ (x : Semaphore) (is : x ≡ semIn xs (suc k)) where
+  module _ (x : Semaphore) (is : x ≡ sem_in xs (suc k)) where
     -- the semaphores with another count
-    counts : (n m : ℕ) → n ≡ m → semsAs (put xs (suc k) (withCount x n)) ≡ semsAs (setCount xs (suc k) m)
-    counts n m e = λ i. semsAs (put xs (suc k) (withCount (is i) (e i)))
+    counts : (n m : ℕ) → n ≡ m → sems_as (put xs (suc k) (with_count x n)) ≡ sems_as (set_count xs (suc k) m)
+    counts n m e = λ i. sems_as (put xs (suc k) (with_count (is i) (e i)))
 
-    module _ (e : waitersOf es ws xs (suc k) ≡ []) where
-      signals : (b : Bool) → full x ≡ b → effectAs es (signalBy ws xs (suc k) [] b) ≡ effectAs es (onSignal es ws xs (suc k))
+    module _ (e : waiters_of es ws xs (suc k) ≡ []) where
+      signals : (b : Bool) → full x ≡ b → effect_as es (signal_by ws xs (suc k) [] b) ≡ effect_as es (on_signal es ws xs (suc k))
       signals b f =
-          let g : b ≡ full (semIn xs (suc k)) = sym f ∙ ap full is in
-          λ i. effectAs es (signalBy ws xs (suc k) (sym e i) (g i))
+          let g : b ≡ full (sem_in xs (suc k)) = sym f ∙ ap full is in
+          λ i. effect_as es (signal_by ws xs (suc k) (sym e i) (g i))
 
-      pub signal-full : x.max ≤ x.count → refusedWith t s (number_of eQovr) ≡ effectAs es (onSignal es ws xs (suc k))
-      signal-full l = refuses-by semsAs effect ht h.form eQovr ∙ signals true (le-leb x.max x.count l)
+      pub signal_full_lem : x.max ≤ x.count → refused_with t s (number_of e_qovr) ≡ effect_as es (on_signal es ws xs (suc k))
+      signal_full_lem l = refuses_by sems_as effect ht h.form e_qovr ∙ signals true (le-leb x.max x.count l)
 
-      pub signal-counts : x.count < x.max → doneWith t (semsAs (put xs (suc k) (withCount x (x.count + 1)))) 0 ≡ effectAs es (onSignal es ws xs (suc k))
-      signal-counts l =
-          let c : x.count + 1 ≡ suc (semIn xs (suc k)).count = add-one x.count ∙ ap (λ (y : Semaphore). suc y.count) is in
-          gives-by semsAs effect ht (counts (x.count + 1) (suc (semIn xs (suc k)).count) c) 0 ∙ signals false (lt-leb x.max x.count l)
+      pub signal_counts_lem : x.count < x.max → done_with t (sems_as (put xs (suc k) (with_count x (x.count + 1)))) 0 ≡ effect_as es (on_signal es ws xs (suc k))
+      signal_counts_lem l =
+          let c : x.count + 1 ≡ suc (sem_in xs (suc k)).count = add-one x.count ∙ ap (λ (y : Semaphore). suc y.count) is in
+          gives_by sems_as effect ht (counts (x.count + 1) (suc (sem_in xs (suc k)).count) c) 0 ∙ signals false (lt-leb x.max x.count l)
 
     module _ (task : ℕ) (p : Patience) where
-      acquires : (n : ℕ) → x.count ≡ n → effectAs es (acquireBy ws xs (suc task) (suc k) p n) ≡ effectAs es (onAcquire ws xs (suc task) (suc k) p)
-      acquires n e = ap (λ (m : ℕ). effectAs es (acquireBy ws xs (suc task) (suc k) p m)) (sym e ∙ ap (λ (y : Semaphore). y.count) is)
+      acquires : (n : ℕ) → x.count ≡ n → effect_as es (acquire_by ws xs (suc task) (suc k) p n) ≡ effect_as es (on_acquire ws xs (suc task) (suc k) p)
+      acquires n e = ap (λ (m : ℕ). effect_as es (acquire_by ws xs (suc task) (suc k) p m)) (sym e ∙ ap (λ (y : Semaphore). y.count) is)
 
-      pub acquire-takes : 0 < x.count → doneWith t (semsAs (put xs (suc k) (withCount x (x.count - 1)))) 0 ≡ effectAs es (onAcquire ws xs (suc task) (suc k) p)
-      acquire-takes l =
-          gives-by semsAs effect ht (counts (x.count - 1) (x.count - 1) refl) 0 ∙ acquires (suc (x.count - 1)) (omega arith)
+      pub acquire_takes : 0 < x.count → done_with t (sems_as (put xs (suc k) (with_count x (x.count - 1)))) 0 ≡ effect_as es (on_acquire ws xs (suc task) (suc k) p)
+      acquire_takes l =
+          gives_by sems_as effect ht (counts (x.count - 1) (x.count - 1) refl) 0 ∙ acquires (suc (x.count - 1)) (omega arith)
 
-      pub acquire-waits : x.count ≤ 0 → (e : Ended) → e ≡ ended_of es (orWaits {R = ℕ} ws [] p (waiterOf (suc task) (OnSem k))) → endedWith e s ≡ effectAs es (onAcquire ws xs (suc task) (suc k) p)
-      acquire-waits l e q = waits-by semsAs effect ht h.form p (waiterOf (suc task) (OnSem k)) e q ∙ acquires 0 (omega arith)
+      pub acquire_waits_lem : x.count ≤ 0 → (e : Ended) → e ≡ ended_of es (or_waits {R = ℕ} ws [] p (waiter_of (suc task) (OnSem k))) → ended_with e s ≡ effect_as es (on_acquire ws xs (suc task) (suc k) p)
+      acquire_waits_lem l e q = waits_by sems_as effect ht h.form p (waiter_of (suc task) (OnSem k)) e q ∙ acquires 0 (omega arith)
 
 -- ---- by the call and by the request
-pub is-signal : (c : SemaphoreCall) → OneOf (0 ∷ []) (tag_of call-type c) → c ≡ signal
-is-signal signal t = refl
-is-signal (acquire p) t = absurd (omega arith)
+pub is_signal : (c : SemaphoreCall) → OneOf (0 ∷ []) (tag_of call-type c) → c ≡ signal
+is_signal signal t = refl
+is_signal (acquire p) t = absurd (omega arith)
 
-pub is-refer : (r : SemaphoreRequest) → OneOf (1 ∷ []) (tag_of request-type r) → r ≡ Request.Refer
-is-refer (Request.Own c) t = absurd (omega arith)
-is-refer Request.Refer t = refl
-is-refer (Request.SetVector v) t = absurd (omega arith)
+pub is_refer_lem : (r : SemaphoreRequest) → OneOf (1 ∷ []) (tag_of request-type r) → r ≡ Request.Refer
+is_refer_lem (Request.Own c) t = absurd (omega arith)
+is_refer_lem Request.Refer t = refl
+is_refer_lem (Request.SetVector v) t = absurd (omega arith)
 
 module _ (t : Tasks) (s : Semaphores) (task k : ℕ) {x : Effect} where
   -- the call that was asked for
-  pub does-own : {c d : SemaphoreCall} → d ≡ c → x ≡ effectAs (entriesOf t) (does (entriesOf t) (waitsOf t) (semsOf s) (suc task) (suc k) c) → x ≡ effectAs (entriesOf t) (does (entriesOf t) (waitsOf t) (semsOf s) (suc task) (suc k) d)
-  does-own e f = f ∙ ap (λ (c : SemaphoreCall). effectAs (entriesOf t) (does (entriesOf t) (waitsOf t) (semsOf s) (suc task) (suc k) c)) (sym e)
+  pub does_own : {c d : SemaphoreCall} → d ≡ c → x ≡ effect_as (entries_of t) (does (entries_of t) (waits_of t) (sems_of s) (suc task) (suc k) c) → x ≡ effect_as (entries_of t) (does (entries_of t) (waits_of t) (sems_of s) (suc task) (suc k) d)
+  does_own e f = f ∙ ap (λ (c : SemaphoreCall). effect_as (entries_of t) (does (entries_of t) (waits_of t) (sems_of s) (suc task) (suc k) c)) (sym e)
 
   -- the request, on the object that the checks found
-  pub does-asked : {r q : SemaphoreRequest} {c : Check} → q ≡ r → c ≡ Admitted task k → x ≡ acted t s (actOf r) (Admitted task k) → x ≡ acted t s (actOf q) c
-  does-asked e g f = f ∙ (λ i. acted t s (actOf (sym e i)) (sym g i))
+  pub does_asked : {r q : SemaphoreRequest} {c : Check} → q ≡ r → c ≡ Admitted task k → x ≡ acted t s (act_of r) (Admitted task k) → x ≡ acted t s (act_of q) c
+  does_asked e g f = f ∙ (λ i. acted t s (act_of (sym e i)) (sym g i))

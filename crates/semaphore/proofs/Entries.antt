@@ -2,9 +2,9 @@
 use lib.IntN.{ℤ}
 use mathlib.Core.Bool.{Bool, not, ◌&&◌}
 use mathlib.Core.Option.{none}
-use Rattle.itron.specs.Codes.{eRsatr, ePar}
-use Rattle.model.specs.Answers.{result_of, refuseIf}
+use Rattle.itron.specs.Codes.{e_rsatr, e_par}
+use Rattle.model.specs.Answers.{result_of, refuse_if}
 
 -- the result by the outcomes of the four tests
-abbrev pub byTests : Bool → Bool → Bool → Bool → ℤ
-byTests a b c d = result_of (refuseIf (not a) eRsatr (refuseIf (not (b && c && d)) ePar none))
+abbrev pub by_tests : Bool → Bool → Bool → Bool → ℤ
+by_tests a b c d = result_of (refuse_if (not a) e_rsatr (refuse_if (not (b && c && d)) e_par none))

@@ -3,5 +3,5 @@ use Rattle.std.specs.Prelude.{List, take}
 use Rattle.model.specs.declared.sem.Semaphore.{Semaphore}
 use Rattle.semaphore.specs.declared.state.Semaphores.{Semaphores}
 
-unfoldable pub semsOf : Semaphores → List Semaphore
-semsOf s = take s.count s.records
+unfoldable pub sems_of : Semaphores → List Semaphore
+sems_of s = take s.count s.records

@@ -1,14 +1,14 @@
 // What can be asked of a semaphore, and what that does once its checks are passed (document 01, "Calls on an open gateway"; priority order: request T-10).
 ghost use Rattle.std.specs.Prelude.{◌≡◌, suc, ◌<◌, length};
-ghost use Rattle.model.specs.Acts.{operationOf};
+ghost use Rattle.model.specs.Acts.{operation_of};
 ghost use Rattle.model.specs.Answers as Model;
-ghost use Rattle.model.specs.Semaphores.{actOf, operation, does, onSignal, onAcquire, told};
-ghost use Rattle.tasks.specs.View.{entriesOf, waitsOf};
+ghost use Rattle.model.specs.Semaphores.{act_of, operation, does, on_signal, on_acquire, told};
+ghost use Rattle.tasks.specs.View.{entries_of, waits_of};
 ghost use Rattle.tasks.specs.Held as TasksHeld;
 ghost use Rattle.tasks.specs.Held.{Passed};
-ghost use Rattle.semaphore.specs.View.{semsOf};
+ghost use Rattle.semaphore.specs.View.{sems_of};
 ghost use Rattle.semaphore.specs.Held.{Held};
-ghost use Rattle.semaphore.specs.Effects.{acted, effectAs, refusedWith, doneWith, endedWith};
+ghost use Rattle.semaphore.specs.Effects.{acted, effect_as, refused_with, done_with, ended_with};
 
 use crate::state::Semaphores;
 use access::vector::Operation;
@@ -31,7 +31,7 @@ pub struct Effect {
 
 // E_OK with a word, nobody released.
 pub(crate) fn done(tasks: Tasks, semaphores: Semaphores, word: u32) -> Effect
-    ensures { result ≡ doneWith tasks semaphores word }
+    ensures { result ≡ done_with tasks semaphores word }
 {
     Effect {
         reply: Reply::plain(E_OK, word),
@@ -43,7 +43,7 @@ pub(crate) fn done(tasks: Tasks, semaphores: Semaphores, word: u32) -> Effect
 
 // A refusal: its code, with everything as it was.
 pub(crate) fn refused(tasks: Tasks, semaphores: Semaphores, code: i32) -> Effect
-    ensures { result ≡ refusedWith tasks semaphores code }
+    ensures { result ≡ refused_with tasks semaphores code }
 {
     Effect {
         reply: Reply::plain(code, 0),
@@ -55,7 +55,7 @@ pub(crate) fn refused(tasks: Tasks, semaphores: Semaphores, code: i32) -> Effect
 
 // An end on the tasks, with the semaphores beside it.
 pub(crate) fn ended(end: Ended, semaphores: Semaphores) -> Effect
-    ensures { result ≡ endedWith end semaphores }
+    ensures { result ≡ ended_with end semaphores }
 {
     let reply = end.reply;
     let tasks = end.tasks;
@@ -69,8 +69,8 @@ pub(crate) fn ended(end: Ended, semaphores: Semaphores) -> Effect
 
 // Signal.
 pub(crate) fn signal(tasks: Tasks, semaphores: Semaphores, object: usize) -> Effect
-    requires { TasksHeld.Held tasks × Held semaphores × (object < length (semsOf semaphores)) }
-    ensures { result ≡ effectAs (entriesOf tasks) (onSignal (entriesOf tasks) (waitsOf tasks) (semsOf semaphores) (suc object)) }
+    requires { TasksHeld.Held tasks × Held semaphores × (object < length (sems_of semaphores)) }
+    ensures { result ≡ effect_as (entries_of tasks) (on_signal (entries_of tasks) (waits_of tasks) (sems_of semaphores) (suc object)) }
 {
     // The attribute says who is first. Measured: reading it copies the semaphores once, here and by `get`.
     let mut semaphore = semaphores.records[object];
@@ -95,8 +95,8 @@ pub(crate) fn acquire(
     object: usize,
     patience: Patience,
 ) -> Effect
-    requires { TasksHeld.Held tasks × Held semaphores × TasksHeld.Free (entriesOf tasks) (waitsOf tasks) task × (object < length (semsOf semaphores)) }
-    ensures { result ≡ effectAs (entriesOf tasks) (onAcquire (waitsOf tasks) (semsOf semaphores) (suc task) (suc object) patience) }
+    requires { TasksHeld.Held tasks × Held semaphores × TasksHeld.Free (entries_of tasks) (waits_of tasks) task × (object < length (sems_of semaphores)) }
+    ensures { result ≡ effect_as (entries_of tasks) (on_acquire (waits_of tasks) (sems_of semaphores) (suc task) (suc object) patience) }
 {
     let mut semaphore = semaphores.get(object);
     if 0 < semaphore.count {
@@ -117,8 +117,8 @@ pub(crate) fn own(
     object: usize,
     call: SemaphoreCall,
 ) -> Effect
-    requires { TasksHeld.Held tasks × Held semaphores × TasksHeld.Free (entriesOf tasks) (waitsOf tasks) task × (object < length (semsOf semaphores)) }
-    ensures { result ≡ effectAs (entriesOf tasks) (does (entriesOf tasks) (waitsOf tasks) (semsOf semaphores) (suc task) (suc object) call) }
+    requires { TasksHeld.Held tasks × Held semaphores × TasksHeld.Free (entries_of tasks) (waits_of tasks) task × (object < length (sems_of semaphores)) }
+    ensures { result ≡ effect_as (entries_of tasks) (does (entries_of tasks) (waits_of tasks) (sems_of semaphores) (suc task) (suc object) call) }
 {
     match call {
         SemaphoreCall::Signal => signal(tasks, semaphores, object),
@@ -128,8 +128,8 @@ pub(crate) fn own(
 
 // Refer.
 pub(crate) fn refer(tasks: Tasks, semaphores: Semaphores, object: usize) -> Effect
-    requires { TasksHeld.Held tasks × Held semaphores × (object < length (semsOf semaphores)) }
-    ensures { result ≡ effectAs (entriesOf tasks) (Model.effect (Model.tells (told (entriesOf tasks) (waitsOf tasks) (semsOf semaphores) (suc object))) (waitsOf tasks) (semsOf semaphores)) }
+    requires { TasksHeld.Held tasks × Held semaphores × (object < length (sems_of semaphores)) }
+    ensures { result ≡ effect_as (entries_of tasks) (Model.effect (Model.tells (told (entries_of tasks) (waits_of tasks) (sems_of semaphores) (suc object))) (waits_of tasks) (sems_of semaphores)) }
 {
     let semaphore = semaphores.records[object];
     let by_priority = attribute::by_priority(semaphore.attribute);
@@ -150,7 +150,7 @@ pub(crate) fn refer(tasks: Tasks, semaphores: Semaphores, object: usize) -> Effe
 
 // Which operation a request is judged as.
 pub fn operation(request: SemaphoreRequest) -> Operation
-    ensures { result ≡ operationOf operation (actOf request) }
+    ensures { result ≡ operation_of operation (act_of request) }
 {
     match request {
         SemaphoreRequest::Own(call) => match call {
@@ -164,8 +164,8 @@ pub fn operation(request: SemaphoreRequest) -> Operation
 
 // What a request does, by what its checks found.
 pub fn act(tasks: Tasks, semaphores: Semaphores, check: Check, request: SemaphoreRequest) -> Effect
-    requires { TasksHeld.Held tasks × Held semaphores × Passed tasks (length (semsOf semaphores)) check }
-    ensures { result ≡ acted tasks semaphores (actOf request) check }
+    requires { TasksHeld.Held tasks × Held semaphores × Passed tasks (length (sems_of semaphores)) check }
+    ensures { result ≡ acted tasks semaphores (act_of request) check }
 {
     match check {
         Check::Refused(code) => refused(tasks, semaphores, code),

@@ -1,12 +1,12 @@
 // The entry of a semaphore (document 01, "Building the table").
 ghost use Rattle.std.specs.Prelude.{◌≡◌, [], ◌∷◌, ◌++◌, ◌<◌, length};
-ghost use Rattle.itron.specs.Limits.{maxSemaphores};
+ghost use Rattle.itron.specs.Limits.{max_semaphores};
 ghost use Rattle.model.specs.Answers.{result_of};
-ghost use Rattle.model.specs.Semaphores.{newSem};
-ghost use Rattle.semaphore.specs.View.{semsOf};
-ghost use Rattle.semaphore.specs.Form.{semsAs};
+ghost use Rattle.model.specs.Semaphores.{new_sem};
+ghost use Rattle.semaphore.specs.View.{sems_of};
+ghost use Rattle.semaphore.specs.Form.{sems_as};
 ghost use Rattle.semaphore.specs.Held.{Held};
-ghost use Rattle.semaphore.specs.Entries.{entryCheck};
+ghost use Rattle.semaphore.specs.Entries.{entry_check};
 
 use crate::state::Semaphores;
 use access::vector::Choice;
@@ -26,7 +26,7 @@ pub struct SemaphoreEntry {
 
 // Steps 4 and 5 of the checks, first hit wins; E_OK where the entry is taken.
 pub fn check(attribute: u32, start: u32, max: u32) -> i32
-    ensures { result ≡ result_of (entryCheck attribute start max) }
+    ensures { result ≡ result_of (entry_check attribute start max) }
 {
     if !attribute::is_order(attribute) {
         return E_RSATR;
@@ -46,8 +46,8 @@ pub fn check(attribute: u32, start: u32, max: u32) -> i32
 impl Semaphores {
     // One semaphore more, as given, its default vector resolved.
     pub fn register(self, given: SemaphoreEntry) -> Semaphores
-        requires { Held self × (length (semsOf self) < maxSemaphores) }
-        ensures { result ≡ semsAs (semsOf self ++ (newSem given.domain given.attribute given.start given.max given.vector ∷ [])) }
+        requires { Held self × (length (sems_of self) < max_semaphores) }
+        ensures { result ≡ sems_as (sems_of self ++ (new_sem given.domain given.attribute given.start given.max given.vector ∷ [])) }
     {
         let choice = given.vector;
         let vector = choice.resolve(given.domain);

@@ -1,13 +1,13 @@
 // All semaphores.
 ghost use Rattle.std.specs.Prelude.{◌≡◌, [], ◌∷◌, ◌++◌, suc, ◌<◌, length};
-ghost use Rattle.itron.specs.Limits.{maxSemaphores};
+ghost use Rattle.itron.specs.Limits.{max_semaphores};
 ghost use Rattle.model.specs.Lists.{put};
 ghost use Rattle.model.specs.State.{no};
-ghost use Rattle.model.specs.Rooms.{setVectorOf};
-ghost use Rattle.model.specs.Semaphores.{semIn, room};
-ghost use Rattle.model.specs.Checks.{targetIn};
-ghost use Rattle.semaphore.specs.View.{semsOf};
-ghost use Rattle.semaphore.specs.Form.{semsAs};
+ghost use Rattle.model.specs.Rooms.{set_vector_of};
+ghost use Rattle.model.specs.Semaphores.{sem_in, room};
+ghost use Rattle.model.specs.Checks.{target_in};
+ghost use Rattle.semaphore.specs.View.{sems_of};
+ghost use Rattle.semaphore.specs.Form.{sems_as};
 ghost use Rattle.semaphore.specs.Held.{Held};
 
 use access::domain;
@@ -34,7 +34,7 @@ pub(crate) const NO_SEMAPHORE: Semaphore = Semaphore {
 impl Semaphores {
     // No semaphore.
     pub fn empty() -> Semaphores
-        ensures { result ≡ semsAs [] }
+        ensures { result ≡ sems_as [] }
     {
         Semaphores {
             count: 0,
@@ -45,15 +45,15 @@ impl Semaphores {
     // How many semaphores there are.
     pub fn len(self) -> usize
         requires { Held self }
-        ensures { result ≡ length (semsOf self) }
+        ensures { result ≡ length (sems_of self) }
     {
         self.count
     }
 
     // One semaphore more, the last.
     pub(crate) fn add(mut self, semaphore: Semaphore) -> Semaphores
-        requires { Held self × (length (semsOf self) < maxSemaphores) }
-        ensures { result ≡ semsAs (semsOf self ++ (semaphore ∷ [])) }
+        requires { Held self × (length (sems_of self) < max_semaphores) }
+        ensures { result ≡ sems_as (sems_of self ++ (semaphore ∷ [])) }
     {
         let at = self.count;
         self.records[at] = semaphore;
@@ -64,7 +64,7 @@ impl Semaphores {
     // The semaphore with a number; zeros where there is none.
     pub fn semaphore(self, number: usize) -> Semaphore
         requires { Held self }
-        ensures { result ≡ semIn (semsOf self) number }
+        ensures { result ≡ sem_in (sems_of self) number }
     {
         if number == 0 {
             return NO_SEMAPHORE;
@@ -78,15 +78,15 @@ impl Semaphores {
 
     // The semaphore with an index.
     pub(crate) fn get(self, object: usize) -> Semaphore
-        requires { Held self × (object < length (semsOf self)) }
-        ensures { result ≡ semIn (semsOf self) (suc object) }
+        requires { Held self × (object < length (sems_of self)) }
+        ensures { result ≡ sem_in (sems_of self) (suc object) }
     {
         self.records[object]
     }
 
     pub(crate) fn put(mut self, object: usize, semaphore: Semaphore) -> Semaphores
-        requires { Held self × (object < length (semsOf self)) }
-        ensures { result ≡ semsAs (put (semsOf self) (suc object) semaphore) }
+        requires { Held self × (object < length (sems_of self)) }
+        ensures { result ≡ sems_as (put (sems_of self) (suc object) semaphore) }
     {
         self.records[object] = semaphore;
         self
@@ -95,7 +95,7 @@ impl Semaphores {
     // Which semaphore a number names.
     pub fn find(self, id: i32) -> Target
         requires { Held self }
-        ensures { result ≡ targetIn room (semsOf self) (no id) }
+        ensures { result ≡ target_in room (sems_of self) (no id) }
     {
         let ordinal = domain::ordinal(id, MAX_SEMAPHORES);
         if ordinal == 0 {
@@ -112,8 +112,8 @@ impl Semaphores {
 
     // Set-vector: all four patterns are replaced.
     pub(crate) fn set_vector(mut self, object: usize, vector: Vector) -> Semaphores
-        requires { Held self × (object < length (semsOf self)) }
-        ensures { result ≡ semsAs (setVectorOf room (semsOf self) (suc object) vector) }
+        requires { Held self × (object < length (sems_of self)) }
+        ensures { result ≡ sems_as (set_vector_of room (sems_of self) (suc object) vector) }
     {
         let mut semaphore = self.get(object);
         semaphore.vector = vector;

@@ -5,84 +5,84 @@ use mathlib.Core.Path.{◌≡◌, refl, sym, ap, ◌∙◌, subst₂}
 use mathlib.Core.List.{List, [], ◌∷◌, map}
 use lib.ListN.{length, get_or, take, length-map}
 use Rattle.arrays.specs.Pad.{pad}
-use Rattle.arrays.proofs.Pads.{pad-get, pad-take}
-use Rattle.itron.specs.Limits.{maxTasks}
+use Rattle.arrays.proofs.Pads.{pad_get, pad_take}
+use Rattle.itron.specs.Limits.{max_tasks}
 use Rattle.model.specs.Lists.{at, All}
-use Rattle.model.specs.State.{TaskEntry, Waiter, noTask as noEntry}
+use Rattle.model.specs.State.{TaskEntry, Waiter, no_task as noEntry}
 use Rattle.model.specs.Conditions.{WaitsFit, Known}
 use Rattle.model.proofs.Fits.{few}
 use Rattle.tasks.specs.declared.task.Task.{Task}
 use Rattle.tasks.specs.declared.state.Tasks.{Tasks}
-use Rattle.tasks.specs.View.{noTask, waiterAt, entry_of, entriesOf, waitsOf}
-use Rattle.tasks.specs.Form.{taskAs, tasksAs, tasksFrom, waitFor, indexIn}
+use Rattle.tasks.specs.View.{no_task, waiter_at, entry_of, entries_of, waits_of}
+use Rattle.tasks.specs.Form.{task_as, tasks_as, tasks_from, wait_for, index_in}
 use Rattle.tasks.specs.Held.{Held}
-use Rattle.tasks.proofs.Waits.{number-back}
-use Rattle.tasks.proofs.Entries.{entries-length, entries-seen, entries-get, entries-priority, waiters-back}
+use Rattle.tasks.proofs.Waits.{number_back}
+use Rattle.tasks.proofs.Entries.{entries_length, entries_seen, entries_get, entries_priority, waiters_back}
 
 -- the entry of a task in the form
-pub entry_at : (es : List TaskEntry) (ws : List Waiter) (i : ℕ) → i < length es → get_or (pad maxTasks noTask (tasksFrom 0 es ws)) i noTask ≡ taskAs (get_or es i noEntry) (waitFor (suc i) ws)
+pub entry_at : (es : List TaskEntry) (ws : List Waiter) (i : ℕ) → i < length es → get_or (pad max_tasks no_task (tasks_from 0 es ws)) i no_task ≡ task_as (get_or es i noEntry) (wait_for (suc i) ws)
 entry_at es ws i h =
     let e : suc (0 + i) ≡ suc i = omega arith in
-    pad-get noTask maxTasks (tasksFrom 0 es ws) i ∙ entries-get 0 es ws i h ∙ ap (λ (t : ℕ). taskAs (get_or es i noEntry) (waitFor t ws)) e
+    pad_get no_task max_tasks (tasks_from 0 es ws) i ∙ entries_get 0 es ws i h ∙ ap (λ (t : ℕ). task_as (get_or es i noEntry) (wait_for t ws)) e
 
-pub back-entries : (es : List TaskEntry) (ws : List Waiter) → WaitsFit es ws → entriesOf (tasksAs es ws) ≡ es
-unfolding entriesOf tasksAs
-back-entries es ws f =
-    let ts = tasksFrom 0 es ws in
-    ap (λ (n : ℕ). map entry_of (take n (pad maxTasks noTask ts))) (sym (entries-length 0 es ws))
-    ∙ ap (map entry_of) (pad-take noTask maxTasks ts) ∙ entries-seen 0 es ws
+pub back_entries : (es : List TaskEntry) (ws : List Waiter) → WaitsFit es ws → entries_of (tasks_as es ws) ≡ es
+unfolding entries_of tasks_as
+back_entries es ws f =
+    let ts = tasks_from 0 es ws in
+    ap (λ (n : ℕ). map entry_of (take n (pad max_tasks no_task ts))) (sym (entries_length 0 es ws))
+    ∙ ap (map entry_of) (pad_take no_task max_tasks ts) ∙ entries_seen 0 es ws
 
-pub back-waits : (es : List TaskEntry) (ws : List Waiter) → WaitsFit es ws → waitsOf (tasksAs es ws) ≡ ws
-unfolding waitsOf tasksAs
-back-waits es ws f =
-    let ts = pad maxTasks noTask (tasksFrom 0 es ws) in
-    ap (λ (n : ℕ). map (waiterAt ts) (take n (pad maxTasks 0 (map indexIn ws)))) (sym (length-map ws indexIn))
-    ∙ ap (map (waiterAt ts)) (pad-take 0 maxTasks (map indexIn ws))
-    ∙ waiters-back ts (length es) ws f.distinct f.known f.plain (λ i h. ap (λ (t : Task). t.wait) (entry_at es ws i h))
+pub back_waits : (es : List TaskEntry) (ws : List Waiter) → WaitsFit es ws → waits_of (tasks_as es ws) ≡ ws
+unfolding waits_of tasks_as
+back_waits es ws f =
+    let ts = pad max_tasks no_task (tasks_from 0 es ws) in
+    ap (λ (n : ℕ). map (waiter_at ts) (take n (pad max_tasks 0 (map index_in ws)))) (sym (length-map ws index_in))
+    ∙ ap (map (waiter_at ts)) (pad_take 0 max_tasks (map index_in ws))
+    ∙ waiters_back ts (length es) ws f.distinct f.known f.plain (λ i h. ap (λ (t : Task). t.wait) (entry_at es ws i h))
 
-pub held-as : (es : List TaskEntry) (ws : List Waiter) → WaitsFit es ws → Held (tasksAs es ws)
-unfolding tasksAs
-held-as es ws f =
-    let d = back-entries es ws f in
-    let w = back-waits es ws f in
+pub held_as : (es : List TaskEntry) (ws : List Waiter) → WaitsFit es ws → Held (tasks_as es ws)
+unfolding tasks_as
+held_as es ws f =
+    let d = back_entries es ws f in
+    let w = back_waits es ws f in
     record {
-      form = λ i. tasksAs (sym d i) (sym w i);
+      form = λ i. tasks_as (sym d i) (sym w i);
       fit = subst₂ (λ (x : List TaskEntry) (y : List Waiter). WaitsFit x y) (sym d) (sym w) f;
       few = f.tasks;
       room = let a = few f in let b = f.tasks in omega arith;
     }
 
-indexes-low : (n : ℕ) (l : List Waiter) → All (Known n) l → (i : ℕ) → i < length l → get_or (map indexIn l) i 0 < n
-indexes-low n [] k i h = absurd (omega arith)
-indexes-low n (x ∷ l) k zero h = let b = number-back x.task k.0.0 in let m = k.0.1 in omega arith
-indexes-low n (x ∷ l) k (suc i) h = indexes-low n l k.1 i (omega arith)
+indexes_low : (n : ℕ) (l : List Waiter) → All (Known n) l → (i : ℕ) → i < length l → get_or (map index_in l) i 0 < n
+indexes_low n [] k i h = absurd (omega arith)
+indexes_low n (x ∷ l) k zero h = let b = number_back x.task k.0.0 in let m = k.0.1 in omega arith
+indexes_low n (x ∷ l) k (suc i) h = indexes_low n l k.1 i (omega arith)
 
 -- ---- of any tasks that are held
 module _ {t : Tasks} (h : Held t) where
-  pub count-seen : t.count ≡ length (entriesOf t)
-  unfolding tasksAs
-  count-seen = ap (λ (x : Tasks). x.count) h.form
+  pub count_seen : t.count ≡ length (entries_of t)
+  unfolding tasks_as
+  count_seen = ap (λ (x : Tasks). x.count) h.form
 
-  pub waiting-seen : t.waiting ≡ length (waitsOf t)
-  unfolding tasksAs
-  waiting-seen = ap (λ (x : Tasks). x.waiting) h.form
+  pub waiting_seen : t.waiting ≡ length (waits_of t)
+  unfolding tasks_as
+  waiting_seen = ap (λ (x : Tasks). x.waiting) h.form
 
-  pub entry_seen : (i : ℕ) → i < length (entriesOf t) → get_or t.entries i noTask ≡ taskAs (get_or (entriesOf t) i noEntry) (waitFor (suc i) (waitsOf t))
-  unfolding tasksAs
-  entry_seen i l = ap (λ (x : Tasks). get_or x.entries i noTask) h.form ∙ entry_at (entriesOf t) (waitsOf t) i l
+  pub entry_seen : (i : ℕ) → i < length (entries_of t) → get_or t.entries i no_task ≡ task_as (get_or (entries_of t) i noEntry) (wait_for (suc i) (waits_of t))
+  unfolding tasks_as
+  entry_seen i l = ap (λ (x : Tasks). get_or x.entries i no_task) h.form ∙ entry_at (entries_of t) (waits_of t) i l
 
   -- the priority of any task, and of none
-  pub priority-seen : (n : ℕ) → (at noTask t.entries n).priority ≡ (at noEntry (entriesOf t) n).priority
-  unfolding tasksAs
-  priority-seen zero = refl
-  priority-seen (suc i) =
-      ap (λ (x : Tasks). (get_or x.entries i noTask).priority) h.form
-      ∙ ap (λ (x : Task). x.priority) (pad-get noTask maxTasks (tasksFrom 0 (entriesOf t) (waitsOf t)) i) ∙ entries-priority 0 (entriesOf t) (waitsOf t) i
+  pub priority_seen : (n : ℕ) → (at no_task t.entries n).priority ≡ (at noEntry (entries_of t) n).priority
+  unfolding tasks_as
+  priority_seen zero = refl
+  priority_seen (suc i) =
+      ap (λ (x : Tasks). (get_or x.entries i no_task).priority) h.form
+      ∙ ap (λ (x : Task). x.priority) (pad_get no_task max_tasks (tasks_from 0 (entries_of t) (waits_of t)) i) ∙ entries_priority 0 (entries_of t) (waits_of t) i
 
   -- who waits is a task
-  pub order-low : (i : ℕ) → i < t.waiting → get_or t.order i 0 < length (entriesOf t)
-  unfolding tasksAs
-  order-low i l =
-      let e = ap (λ (x : Tasks). get_or x.order i 0) h.form ∙ pad-get 0 maxTasks (map indexIn (waitsOf t)) i in
-      let k = indexes-low (length (entriesOf t)) (waitsOf t) h.fit.known i (let w = waiting-seen in omega arith) in
+  pub order_low : (i : ℕ) → i < t.waiting → get_or t.order i 0 < length (entries_of t)
+  unfolding tasks_as
+  order_low i l =
+      let e = ap (λ (x : Tasks). get_or x.order i 0) h.form ∙ pad_get 0 max_tasks (map index_in (waits_of t)) i in
+      let k = indexes_low (length (entries_of t)) (waits_of t) h.fit.known i (let w = waiting_seen in omega arith) in
       omega arith

@@ -10,141 +10,141 @@ use lib.ListN.{length, get_or, take, set, length-map, length-append}
 use mir.Syntax.{w8}
 use mir.Val.{SFits}
 use Rattle.arrays.specs.Pad.{pad}
-use Rattle.arrays.proofs.Pads.{pad-take, pad-set, pad-snoc}
-use Rattle.itron.specs.Limits.{maxDomains, maxTasks}
+use Rattle.arrays.proofs.Pads.{pad_take, pad_set, pad_snoc}
+use Rattle.itron.specs.Limits.{max_domains, max_tasks}
 use Rattle.model.specs.Lists.{index}
-use Rattle.model.specs.State.{TaskEntry, Waiter, noTask as noEntry}
+use Rattle.model.specs.State.{TaskEntry, Waiter, no_task as noEntry}
 use Rattle.model.specs.Waits.{absent, leave, join}
 use Rattle.model.specs.Conditions.{WaitsFit, TaskOwner}
-use Rattle.model.proofs.Fits.{few, waits-join}
+use Rattle.model.proofs.Fits.{few, waits_join}
 use Rattle.tasks.specs.declared.task.Wait.{Wait}
 use Rattle.tasks.specs.declared.task.Wait.TheVariants.{Ready, OnSem, Receiving, Sending}
 use Rattle.tasks.specs.declared.task.Task.{Task}
 use Rattle.tasks.specs.declared.order.Order.{Order}
 use Rattle.tasks.specs.declared.state.Tasks.{Tasks}
-use Rattle.tasks.specs.View.{noTask, withWait, entriesOf, waitsOf, waiterOf}
-use Rattle.tasks.specs.Form.{taskAs, tasksAs, tasksFrom, waitFor, waitIn, indexIn}
-use Rattle.tasks.specs.Held.{Held, Free, isReady}
+use Rattle.tasks.specs.View.{no_task, with_wait, entries_of, waits_of, waiter_of}
+use Rattle.tasks.specs.Form.{task_as, tasks_as, tasks_from, wait_for, wait_in, index_in}
+use Rattle.tasks.specs.Held.{Held, Free, is_ready}
 use Rattle.tasks.specs.Orders.{order_of, without}
-use Rattle.tasks.proofs.Waits.{wait-snoc, wait-snoc-other, wait-gone, wait-stays}
-use Rattle.tasks.proofs.Entries.{entries-length, entries-set, entries-snoc}
-use Rattle.tasks.proofs.Orders.{order-gone, order-snoc}
-use Rattle.tasks.proofs.Back.{entry_at, waiting-seen}
+use Rattle.tasks.proofs.Waits.{wait_snoc, wait_snoc_other, wait_gone, wait_stays}
+use Rattle.tasks.proofs.Entries.{entries_length, entries_set, entries_snoc}
+use Rattle.tasks.proofs.Orders.{order_gone, order_snoc}
+use Rattle.tasks.proofs.Back.{entry_at, waiting_seen}
 
 -- ---- the tasks with some fields replaced
-abbrev pub withWaits : Tasks → List Task → ℕ → List ℕ → Tasks
-withWaits t ts n o = record { count = t.count; entries = ts; waiting = n; order = o }
+abbrev pub with_waits : Tasks → List Task → ℕ → List ℕ → Tasks
+with_waits t ts n o = record { count = t.count; entries = ts; waiting = n; order = o }
 
 -- one task does something else
 abbrev pub doing : List Task → ℕ → Wait → List Task
-doing ts t w = set ts t (withWait (get_or ts t noTask) w)
+doing ts t w = set ts t (with_wait (get_or ts t no_task) w)
 
 abbrev pub others : Tasks → ℕ → List ℕ
 others t i = without i (take t.waiting t.order)
 
 abbrev pub released : Tasks → ℕ → Tasks
-released t i = withWaits t (doing t.entries i Ready) (length (others t i)) (pad maxTasks 0 (others t i))
+released t i = with_waits t (doing t.entries i Ready) (length (others t i)) (pad max_tasks 0 (others t i))
 
 abbrev pub joined : Tasks → ℕ → Wait → Tasks
-joined t i w = withWaits t (doing t.entries i w) (t.waiting + 1) (set t.order t.waiting i)
+joined t i w = with_waits t (doing t.entries i w) (t.waiting + 1) (set t.order t.waiting i)
 
 abbrev pub added : Tasks → TaskEntry → Tasks
-added t d = record { count = t.count + 1; entries = set t.entries t.count (taskAs d Ready); waiting = t.waiting; order = t.order }
+added t d = record { count = t.count + 1; entries = set t.entries t.count (task_as d Ready); waiting = t.waiting; order = t.order }
 
 -- ---- on the form
 module _ (es : List TaskEntry) (ws l : List Waiter) where
-  entries-form : (i : ℕ) (w : Wait) → i < length es → waitFor (suc i) l ≡ w → ((u : ℕ) → u ≢ suc i → waitFor u l ≡ waitFor u ws)
-      → doing (pad maxTasks noTask (tasksFrom 0 es ws)) i w ≡ pad maxTasks noTask (tasksFrom 0 es l)
-  entries-form i w h e f =
-      let ts = tasksFrom 0 es ws in
+  entries_form : (i : ℕ) (w : Wait) → i < length es → wait_for (suc i) l ≡ w → ((u : ℕ) → u ≢ suc i → wait_for u l ≡ wait_for u ws)
+      → doing (pad max_tasks no_task (tasks_from 0 es ws)) i w ≡ pad max_tasks no_task (tasks_from 0 es l)
+  entries_form i w h e f =
+      let ts = tasks_from 0 es ws in
       let z : 0 + i ≡ i = omega arith in
-      ap (λ (x : Task). set (pad maxTasks noTask ts) i (withWait x w)) (entry_at es ws i h)
-      ∙ pad-set noTask maxTasks ts i (taskAs (get_or es i noEntry) w) (let q = entries-length 0 es ws in omega arith)
-      ∙ ap (pad maxTasks noTask) (entries-set 0 es ws l i w h (ap (λ (k : ℕ). waitFor (suc k) l) z ∙ e) (λ u k. f u (λ q. k (q ∙ ap suc (sym z)))))
+      ap (λ (x : Task). set (pad max_tasks no_task ts) i (with_wait x w)) (entry_at es ws i h)
+      ∙ pad_set no_task max_tasks ts i (task_as (get_or es i noEntry) w) (let q = entries_length 0 es ws in omega arith)
+      ∙ ap (pad max_tasks no_task) (entries_set 0 es ws l i w h (ap (λ (k : ℕ). wait_for (suc k) l) z ∙ e) (λ u k. f u (λ q. k (q ∙ ap suc (sym z)))))
 
-release-form : (es : List TaskEntry) (ws : List Waiter) → WaitsFit es ws → (i : ℕ) → i < length es → released (tasksAs es ws) i ≡ tasksAs es (leave (suc i) ws)
-unfolding tasksAs
-release-form es ws f i h =
+release_form : (es : List TaskEntry) (ws : List Waiter) → WaitsFit es ws → (i : ℕ) → i < length es → released (tasks_as es ws) i ≡ tasks_as es (leave (suc i) ws)
+unfolding tasks_as
+release_form es ws f i h =
     let l = leave (suc i) ws in
-    let o : without i (take (length ws) (pad maxTasks 0 (map indexIn ws))) ≡ map indexIn l =
-    ap (λ (n : ℕ). without i (take n (pad maxTasks 0 (map indexIn ws)))) (sym (length-map ws indexIn))
-    ∙ ap (without i) (pad-take 0 maxTasks (map indexIn ws)) ∙ order-gone (length es) i ws f.known in
-    let n : length (without i (take (length ws) (pad maxTasks 0 (map indexIn ws)))) ≡ length l = ap length o ∙ length-map l indexIn in
-    let ts = entries-form es ws l i Ready h (wait-gone (suc i) ws) (λ u k. wait-stays u (suc i) ws k) in
-    λ j. withWaits (tasksAs es ws) (ts j) (n j) (pad maxTasks 0 (o j))
+    let o : without i (take (length ws) (pad max_tasks 0 (map index_in ws))) ≡ map index_in l =
+    ap (λ (n : ℕ). without i (take n (pad max_tasks 0 (map index_in ws)))) (sym (length-map ws index_in))
+    ∙ ap (without i) (pad_take 0 max_tasks (map index_in ws)) ∙ order_gone (length es) i ws f.known in
+    let n : length (without i (take (length ws) (pad max_tasks 0 (map index_in ws)))) ≡ length l = ap length o ∙ length-map l index_in in
+    let ts = entries_form es ws l i Ready h (wait_gone (suc i) ws) (λ u k. wait_stays u (suc i) ws k) in
+    λ j. with_waits (tasks_as es ws) (ts j) (n j) (pad max_tasks 0 (o j))
 
 module _ (es : List TaskEntry) (ws : List Waiter) (f : WaitsFit es ws) (i : ℕ) (k : Free es ws i) where
   -- a waiting task with this index can join
-  fits : (w : Wait) → isReady w ≡ false → WaitsFit es (join (waiterOf (suc i) w) ws)
+  fits : (w : Wait) → is_ready w ≡ false → WaitsFit es (join (waiter_of (suc i) w) ws)
   fits Ready b = absurd (let z : ◌≡◌ {A = ℕ} 0 1 = cc in omega arith)
-  fits (OnSem n) b = waits-join f (waiterOf (suc i) (OnSem n)) k.free ((λ q. omega arith), k.low) ((λ q. omega arith), refl)
-  fits (Receiving n) b = waits-join f (waiterOf (suc i) (Receiving n)) k.free ((λ q. omega arith), k.low) ((λ q. omega arith), refl)
-  fits (Sending n x) b = waits-join f (waiterOf (suc i) (Sending n x)) k.free ((λ q. omega arith), k.low) ((λ q. omega arith), tt)
+  fits (OnSem n) b = waits_join f (waiter_of (suc i) (OnSem n)) k.free ((λ q. omega arith), k.low) ((λ q. omega arith), refl)
+  fits (Receiving n) b = waits_join f (waiter_of (suc i) (Receiving n)) k.free ((λ q. omega arith), k.low) ((λ q. omega arith), refl)
+  fits (Sending n x) b = waits_join f (waiter_of (suc i) (Sending n x)) k.free ((λ q. omega arith), k.low) ((λ q. omega arith), tt)
 
-  join-as : (w : Wait) (e : Waiter) → e.task ≡ suc i → waitIn e ≡ w → WaitsFit es (join e ws) → joined (tasksAs es ws) i w ≡ tasksAs es (join e ws)
-  unfolding tasksAs
-  join-as w e q r g =
+  join_as : (w : Wait) (e : Waiter) → e.task ≡ suc i → wait_in e ≡ w → WaitsFit es (join e ws) → joined (tasks_as es ws) i w ≡ tasks_as es (join e ws)
+  unfolding tasks_as
+  join_as w e q r g =
       let l = join e ws in
       let n : length l ≡ length ws + 1 = length-append ws (e ∷ []) in
       let p = few g in
       let p' = f.tasks in
-      let len = length-map ws indexIn in
-      let o : set (pad maxTasks 0 (map indexIn ws)) (length ws) i ≡ pad maxTasks 0 (map indexIn l) =
-      ap (λ (m : ℕ). set (pad maxTasks 0 (map indexIn ws)) m i) (sym len)
-      ∙ pad-snoc 0 maxTasks (map indexIn ws) i (omega arith)
-      ∙ ap (pad maxTasks 0) (ap (λ (x : ℕ). map indexIn ws ++ (x ∷ [])) (ap index (sym q)) ∙ sym (order-snoc e ws)) in
-      let ts = entries-form es ws l i w k.low (ap (λ (x : ℕ). waitFor x l) (sym q) ∙ wait-snoc e ws (ap (λ (x : ℕ). absent x ws) q ∙ k.free) ∙ r) (λ u z. wait-snoc-other u e ws (λ y. z (y ∙ q))) in
-      λ j. withWaits (tasksAs es ws) (ts j) (sym n j) (o j)
+      let len = length-map ws index_in in
+      let o : set (pad max_tasks 0 (map index_in ws)) (length ws) i ≡ pad max_tasks 0 (map index_in l) =
+      ap (λ (m : ℕ). set (pad max_tasks 0 (map index_in ws)) m i) (sym len)
+      ∙ pad_snoc 0 max_tasks (map index_in ws) i (omega arith)
+      ∙ ap (pad max_tasks 0) (ap (λ (x : ℕ). map index_in ws ++ (x ∷ [])) (ap index (sym q)) ∙ sym (order_snoc e ws)) in
+      let ts = entries_form es ws l i w k.low (ap (λ (x : ℕ). wait_for x l) (sym q) ∙ wait_snoc e ws (ap (λ (x : ℕ). absent x ws) q ∙ k.free) ∙ r) (λ u z. wait_snoc_other u e ws (λ y. z (y ∙ q))) in
+      λ j. with_waits (tasks_as es ws) (ts j) (sym n j) (o j)
 
-  join-form : (w : Wait) → isReady w ≡ false → joined (tasksAs es ws) i w ≡ tasksAs es (join (waiterOf (suc i) w) ws)
-  join-form Ready b = absurd (let z : ◌≡◌ {A = ℕ} 0 1 = cc in omega arith)
-  join-form (OnSem n) b = join-as (OnSem n) (waiterOf (suc i) (OnSem n)) refl refl (fits (OnSem n) b)
-  join-form (Receiving n) b = join-as (Receiving n) (waiterOf (suc i) (Receiving n)) refl refl (fits (Receiving n) b)
-  join-form (Sending n x) b = join-as (Sending n x) (waiterOf (suc i) (Sending n x)) refl refl (fits (Sending n x) b)
+  join_form : (w : Wait) → is_ready w ≡ false → joined (tasks_as es ws) i w ≡ tasks_as es (join (waiter_of (suc i) w) ws)
+  join_form Ready b = absurd (let z : ◌≡◌ {A = ℕ} 0 1 = cc in omega arith)
+  join_form (OnSem n) b = join_as (OnSem n) (waiter_of (suc i) (OnSem n)) refl refl (fits (OnSem n) b)
+  join_form (Receiving n) b = join_as (Receiving n) (waiter_of (suc i) (Receiving n)) refl refl (fits (Receiving n) b)
+  join_form (Sending n x) b = join_as (Sending n x) (waiter_of (suc i) (Sending n x)) refl refl (fits (Sending n x) b)
 
-add-form : (es : List TaskEntry) (ws : List Waiter) (d : TaskEntry) → length es < maxTasks → ws ≡ [] → added (tasksAs es ws) d ≡ tasksAs (es ++ (d ∷ [])) ws
-unfolding tasksAs
-add-form es ws d h e =
+add_form : (es : List TaskEntry) (ws : List Waiter) (d : TaskEntry) → length es < max_tasks → ws ≡ [] → added (tasks_as es ws) d ≡ tasks_as (es ++ (d ∷ [])) ws
+unfolding tasks_as
+add_form es ws d h e =
     let n : length es + 1 ≡ length (es ++ (d ∷ [])) = sym (length-append es (d ∷ [])) in
-    let len = entries-length 0 es [] in
-    let ts : set (pad maxTasks noTask (tasksFrom 0 es [])) (length es) (taskAs d Ready) ≡ pad maxTasks noTask (tasksFrom 0 (es ++ (d ∷ [])) []) =
-    ap (λ (m : ℕ). set (pad maxTasks noTask (tasksFrom 0 es [])) m (taskAs d Ready)) (sym len)
-    ∙ pad-snoc noTask maxTasks (tasksFrom 0 es []) (taskAs d Ready) (omega arith)
-    ∙ ap (pad maxTasks noTask) (entries-snoc 0 es d) in
-    ap (λ (l : List Waiter). added (tasksAs es l) d) e
-    ∙ (λ j. record { count = n j; entries = ts j; waiting = 0; order = pad maxTasks 0 (map indexIn []) })
-    ∙ ap (tasksAs (es ++ (d ∷ []))) (sym e)
+    let len = entries_length 0 es [] in
+    let ts : set (pad max_tasks no_task (tasks_from 0 es [])) (length es) (task_as d Ready) ≡ pad max_tasks no_task (tasks_from 0 (es ++ (d ∷ [])) []) =
+    ap (λ (m : ℕ). set (pad max_tasks no_task (tasks_from 0 es [])) m (task_as d Ready)) (sym len)
+    ∙ pad_snoc no_task max_tasks (tasks_from 0 es []) (task_as d Ready) (omega arith)
+    ∙ ap (pad max_tasks no_task) (entries_snoc 0 es d) in
+    ap (λ (l : List Waiter). added (tasks_as es l) d) e
+    ∙ (λ j. record { count = n j; entries = ts j; waiting = 0; order = pad max_tasks 0 (map index_in []) })
+    ∙ ap (tasks_as (es ++ (d ∷ []))) (sym e)
 
 -- a task's domain is a byte
-pub owner-byte : (z : ℤ) → TaskOwner maxDomains z → SFits w8 z
-owner-byte (pos d) h = record { sfits = omega (arith, h.1) }
-owner-byte (negsuc zero) h = record { sfits = omega arith }
-owner-byte (negsuc (suc k)) h = absurd h
+pub owner_byte : (z : ℤ) → TaskOwner max_domains z → SFits w8 z
+owner_byte (pos d) h = record { sfits = omega (arith, h.1) }
+owner_byte (negsuc zero) h = record { sfits = omega arith }
+owner_byte (negsuc (suc k)) h = absurd h
 
 -- ---- on any tasks that are held
 module _ {t : Tasks} (h : Held t) where
   -- with the task's new entry, and the order without it
-  pub release-link : (i : ℕ) (x : Task) (o : Order) → i < length (entriesOf t) → x ≡ withWait (get_or t.entries i noTask) Ready → o ≡ order_of (others t i)
-      → withWaits t (set t.entries i x) o.count o.entries ≡ tasksAs (entriesOf t) (leave (suc i) (waitsOf t))
-  release-link i x o l e f =
-      (λ j. withWaits t (set t.entries i (e j)) (f j).count (f j).entries)
-      ∙ ap (λ (y : Tasks). released y i) h.form ∙ release-form (entriesOf t) (waitsOf t) h.fit i l
+  pub release_link : (i : ℕ) (x : Task) (o : Order) → i < length (entries_of t) → x ≡ with_wait (get_or t.entries i no_task) Ready → o ≡ order_of (others t i)
+      → with_waits t (set t.entries i x) o.count o.entries ≡ tasks_as (entries_of t) (leave (suc i) (waits_of t))
+  release_link i x o l e f =
+      (λ j. with_waits t (set t.entries i (e j)) (f j).count (f j).entries)
+      ∙ ap (λ (y : Tasks). released y i) h.form ∙ release_form (entries_of t) (waits_of t) h.fit i l
 
-  pub join-link : (i : ℕ) (w : Wait) (x : Task) → Free (entriesOf t) (waitsOf t) i → isReady w ≡ false → x ≡ withWait (get_or t.entries i noTask) w
-      → withWaits t (set t.entries i x) (t.waiting + 1) (set t.order t.waiting i) ≡ tasksAs (entriesOf t) (join (waiterOf (suc i) w) (waitsOf t))
-  join-link i w x k b e =
-      (λ j. withWaits t (set t.entries i (e j)) (t.waiting + 1) (set t.order t.waiting i))
-      ∙ ap (λ (y : Tasks). joined y i w) h.form ∙ join-form (entriesOf t) (waitsOf t) h.fit i k w b
+  pub join_link : (i : ℕ) (w : Wait) (x : Task) → Free (entries_of t) (waits_of t) i → is_ready w ≡ false → x ≡ with_wait (get_or t.entries i no_task) w
+      → with_waits t (set t.entries i x) (t.waiting + 1) (set t.order t.waiting i) ≡ tasks_as (entries_of t) (join (waiter_of (suc i) w) (waits_of t))
+  join_link i w x k b e =
+      (λ j. with_waits t (set t.entries i (e j)) (t.waiting + 1) (set t.order t.waiting i))
+      ∙ ap (λ (y : Tasks). joined y i w) h.form ∙ join_form (entries_of t) (waits_of t) h.fit i k w b
 
-  pub add-link : (d : TaskEntry) → length (entriesOf t) < maxTasks → waitsOf t ≡ [] → added t d ≡ tasksAs (entriesOf t ++ (d ∷ [])) (waitsOf t)
-  add-link d l e = ap (λ (x : Tasks). added x d) h.form ∙ add-form (entriesOf t) (waitsOf t) d l e
+  pub add_link : (d : TaskEntry) → length (entries_of t) < max_tasks → waits_of t ≡ [] → added t d ≡ tasks_as (entries_of t ++ (d ∷ [])) (waits_of t)
+  add_link d l e = ap (λ (x : Tasks). added x d) h.form ∙ add_form (entries_of t) (waits_of t) d l e
 
   -- who joins finds a place in the order
-  pub join-room : (i : ℕ) → Free (entriesOf t) (waitsOf t) i → t.waiting < maxTasks
-  join-room i k =
-      let w = waiting-seen h in
-      let x = waiterOf (suc i) (OnSem 0) in
-      let f = few (fits (entriesOf t) (waitsOf t) h.fit i k (OnSem 0) refl) in
-      let n = length-append (waitsOf t) (x ∷ []) in
+  pub join_room : (i : ℕ) → Free (entries_of t) (waits_of t) i → t.waiting < max_tasks
+  join_room i k =
+      let w = waiting_seen h in
+      let x = waiter_of (suc i) (OnSem 0) in
+      let f = few (fits (entries_of t) (waits_of t) h.fit i k (OnSem 0) refl) in
+      let n = length-append (waits_of t) (x ∷ []) in
       let b = h.fit.tasks in
       omega arith

@@ -10,7 +10,7 @@ use lib.ListN.{get_or}
 use borrow.Author.Tests.{leb-true, leb-false, lt-ltb, le-ltb, le-leb, lt-leb, ne_eqb}
 use Rattle.model.specs.Lists.{insert, arrange}
 use Rattle.tasks.specs.declared.lead.Lead.{Lead}
-use Rattle.tasks.specs.Leads.{lead, leadOf}
+use Rattle.tasks.specs.Leads.{lead, lead_of}
 
 -- ---- of any list
 module _ {A : Type 0} (rank : A → ℕ) (d : A) where
@@ -20,8 +20,8 @@ module _ {A : Type 0} (rank : A → ℕ) (d : A) where
   abbrev lower : A → A → A
   lower b x = cond (ltb (rank x) (rank b)) x b
 
-  front-insert : (x y : A) (l : List A) → front (insert rank x (y ∷ l)) ≡ cond (leb (rank x) (rank y)) x y
-  front-insert x y l = go (leb (rank x) (rank y))
+  front_insert : (x y : A) (l : List A) → front (insert rank x (y ∷ l)) ≡ cond (leb (rank x) (rank y)) x y
+  front_insert x y l = go (leb (rank x) (rank y))
     where
       go : (c : Bool) → front (cond c (x ∷ (y ∷ l)) (y ∷ insert rank x l)) ≡ cond c x y
       go true = refl
@@ -29,10 +29,10 @@ module _ {A : Type 0} (rank : A → ℕ) (d : A) where
 
   -- ahead of one that ranks no lower, behind one that does
   ahead : (x y : A) (l : List A) → rank x ≤ rank y → front (insert rank x (y ∷ l)) ≡ x
-  ahead x y l h = front-insert x y l ∙ ap (λ (c : Bool). cond c x y) (le-leb (rank x) (rank y) h)
+  ahead x y l h = front_insert x y l ∙ ap (λ (c : Bool). cond c x y) (le-leb (rank x) (rank y) h)
 
   behind : (x y : A) (l : List A) → rank y < rank x → front (insert rank x (y ∷ l)) ≡ y
-  behind x y l h = front-insert x y l ∙ ap (λ (c : Bool). cond c x y) (lt-leb (rank x) (rank y) h)
+  behind x y l h = front_insert x y l ∙ ap (λ (c : Bool). cond c x y) (lt-leb (rank x) (rank y) h)
 
   -- the first of all that follow two is the first of all that follow the lower of them
   first_two : (b x : A) (l : List A) → front (insert rank b (insert rank x l)) ≡ front (insert rank (lower b x) l)
@@ -44,7 +44,7 @@ module _ {A : Type 0} (rank : A → ℕ) (d : A) where
         where
           next : (c : Bool) → leb (rank x) (rank y) ≡ c → front (insert rank b (cond c (x ∷ (y ∷ l)) (y ∷ insert rank x l))) ≡ front (insert rank b (y ∷ l))
           next true e = ahead b x (y ∷ l) h ∙ sym (ahead b y l (omega (arith, h, leb-true (rank x) (rank y) e)))
-          next false e = front-insert b y (insert rank x l) ∙ sym (front-insert b y l)
+          next false e = front_insert b y (insert rank x l) ∙ sym (front_insert b y l)
 
       yields : (l : List A) → rank x < rank b → front (insert rank b (insert rank x l)) ≡ front (insert rank x l)
       yields [] h = behind b x [] h
@@ -63,9 +63,9 @@ module _ {A : Type 0} (rank : A → ℕ) (d : A) where
           yields l h ∙ ap (λ (c : Bool). front (insert rank (cond c x b) l)) (sym (lt-ltb (rank x) (rank b) h))
 
 -- arranged by what a function shows
-pub map-arrange : {A B : Type 0} (f : A → B) (rank : B → ℕ) (l : List A) → map f (arrange (λ (x : A). rank (f x)) l) ≡ arrange rank (map f l)
-map-arrange {A} {B} f rank [] = refl
-map-arrange {A} {B} f rank (x ∷ l) = put_in (arrange (λ (x : A). rank (f x)) l) ∙ ap (insert rank (f x)) (map-arrange f rank l)
+pub map_arrange : {A B : Type 0} (f : A → B) (rank : B → ℕ) (l : List A) → map f (arrange (λ (x : A). rank (f x)) l) ≡ arrange rank (map f l)
+map_arrange {A} {B} f rank [] = refl
+map_arrange {A} {B} f rank (x ∷ l) = put_in (arrange (λ (x : A). rank (f x)) l) ∙ ap (insert rank (f x)) (map_arrange f rank l)
   where
     put_in : (l : List A) → map f (insert (λ (x : A). rank (f x)) x l) ≡ insert rank (f x) (map f l)
     put_in [] = refl
@@ -87,10 +87,10 @@ module _ (rank : ℕ → ℕ) where
   led zero l = l
   led (suc n) l = suc n ∷ l
 
-  abbrev pub firstBy : List ℕ → ℕ
-  firstBy l = get_or (arrange rank l) 0 0
+  abbrev pub first_by : List ℕ → ℕ
+  first_by l = get_or (arrange rank l) 0 0
 
-  own : (b x : ℕ) → leadOf (leads b) x (rank x) ≡ leads (leadOf (leads b) x (rank x)).number
+  own : (b x : ℕ) → lead_of (leads b) x (rank x) ≡ leads (lead_of (leads b) x (rank x)).number
   own b x = go (eqb b 0) (ltb (rank x) (rank b))
     where
       go : (c e : Bool) → cond c (leads x) (cond e (leads x) (leads b)) ≡ leads (cond c (leads x) (cond e (leads x) (leads b))).number
@@ -98,39 +98,39 @@ module _ (rank : ℕ → ℕ) where
       go false true = refl
       go false false = refl
 
-  step : (b x : ℕ) (l : List ℕ) → firstBy (led b (suc x ∷ l)) ≡ firstBy (led (leadOf (leads b) (suc x) (rank (suc x))).number l)
+  step : (b x : ℕ) (l : List ℕ) → first_by (led b (suc x ∷ l)) ≡ first_by (led (lead_of (leads b) (suc x) (rank (suc x))).number l)
   step zero x l = refl
   step (suc b) x l = first_two rank 0 (suc b) (suc x) (arrange rank l) ∙ rw (ne_eqb (suc b) 0 (λ q. omega arith)) (go (ltb (rank (suc x)) (rank (suc b))))
     where
-      go : (c : Bool) → get_or (insert rank (cond c (suc x) (suc b)) (arrange rank l)) 0 0 ≡ firstBy (led (cond c (leads (suc x)) (leads (suc b))).number l)
+      go : (c : Bool) → get_or (insert rank (cond c (suc x) (suc b)) (arrange rank l)) 0 0 ≡ first_by (led (cond c (leads (suc x)) (leads (suc b))).number l)
       go true = refl
       go false = refl
 
-  last : (b : ℕ) → firstBy (led b []) ≡ b
+  last : (b : ℕ) → first_by (led b []) ≡ b
   last zero = refl
   last (suc b) = refl
 
 -- along all of them: who leads has its rank, and the first of it and those who are left is the first of all
 pub record Scan (rank : ℕ → ℕ) (all left : List ℕ) (a : Lead) : Type 0 where
-  pub own-rank : a ≡ leads rank a.number
-  pub same_first : firstBy rank all ≡ firstBy rank (led rank a.number left)
+  pub own_rank : a ≡ leads rank a.number
+  pub same_first : first_by rank all ≡ first_by rank (led rank a.number left)
 
 module _ (rank : ℕ → ℕ) (all : List ℕ) where
-  pub scan-start : Scan rank all all (leads rank 0)
-  scan-start = record { own-rank = refl; same_first = refl }
+  pub scan_start : Scan rank all all (leads rank 0)
+  scan_start = record { own_rank = refl; same_first = refl }
 
   -- of those who are left the first is looked at, or passed over
   module _ (m l : List ℕ) (a r : Lead) (v : Scan rank all m a) where
-    pub scan-next : (x : ℕ) → m ≡ suc x ∷ l → r ≡ leadOf a (x + 1) (rank (suc x)) → Scan rank all l r
-    scan-next x h f =
-        let e : r ≡ leadOf (leads rank a.number) (suc x) (rank (suc x)) = f ∙ (λ i. leadOf (v.own-rank i) (add-one x i) (rank (suc x))) in
+    pub scan_next : (x : ℕ) → m ≡ suc x ∷ l → r ≡ lead_of a (x + 1) (rank (suc x)) → Scan rank all l r
+    scan_next x h f =
+        let e : r ≡ lead_of (leads rank a.number) (suc x) (rank (suc x)) = f ∙ (λ i. lead_of (v.own-rank i) (add-one x i) (rank (suc x))) in
         record {
-          own-rank = e ∙ own rank a.number (suc x) ∙ ap (λ (y : Lead). leads rank y.number) (sym e);
-          same_first = v.same_first ∙ ap (λ (k : List ℕ). firstBy rank (led rank a.number k)) h ∙ step rank a.number x l ∙ ap (λ (y : Lead). firstBy rank (led rank y.number l)) (sym e);
+          own_rank = e ∙ own rank a.number (suc x) ∙ ap (λ (y : Lead). leads rank y.number) (sym e);
+          same_first = v.same_first ∙ ap (λ (k : List ℕ). first_by rank (led rank a.number k)) h ∙ step rank a.number x l ∙ ap (λ (y : Lead). first_by rank (led rank y.number l)) (sym e);
         }
 
-    pub scan-pass : m ≡ l → r ≡ a → Scan rank all l r
-    scan-pass h f = subst₂ (λ (k : List ℕ) (y : Lead). Scan rank all k y) h (sym f) v
+    pub scan_pass : m ≡ l → r ≡ a → Scan rank all l r
+    scan_pass h f = subst₂ (λ (k : List ℕ) (y : Lead). Scan rank all k y) h (sym f) v
 
-  pub scan-end : (l : List ℕ) (a : Lead) → l ≡ [] → Scan rank all l a → firstBy rank all ≡ a.number
-  scan-end l a e v = v.same_first ∙ ap (λ (m : List ℕ). firstBy rank (led rank a.number m)) e ∙ last rank a.number
+  pub scan_end : (l : List ℕ) (a : Lead) → l ≡ [] → Scan rank all l a → first_by rank all ≡ a.number
+  scan_end l a e v = v.same_first ∙ ap (λ (m : List ℕ). first_by rank (led rank a.number m)) e ∙ last rank a.number

@@ -1,6 +1,6 @@
 -- What every function on the tasks asks of them and keeps. Definitions only.
 use Rattle.std.specs.Prelude.{ℕ, suc, ◌≤◌, ◌<◌, ◌≡◌, Bool, true, false, List, length}
-use Rattle.itron.specs.Limits.{maxTasks}
+use Rattle.itron.specs.Limits.{max_tasks}
 use Rattle.model.specs.State.{TaskEntry, Waiter}
 use Rattle.model.specs.Waits.{absent}
 use Rattle.model.specs.Conditions.{WaitsFit}
@@ -9,21 +9,21 @@ use Rattle.model.specs.declared.check.Check.TheVariants.{Admitted}
 use Rattle.tasks.specs.declared.task.Wait.{Wait}
 use Rattle.tasks.specs.declared.task.Wait.TheVariants.{Ready, OnSem, Receiving, Sending}
 use Rattle.tasks.specs.declared.state.Tasks.{Tasks}
-use Rattle.tasks.specs.View.{entriesOf, waitsOf}
-use Rattle.tasks.specs.Form.{tasksAs}
+use Rattle.tasks.specs.View.{entries_of, waits_of}
+use Rattle.tasks.specs.Form.{tasks_as}
 
 -- the tasks are the form of what is seen of them, within the limits; the last two follow from these
 pub record Held (t : Tasks) : Type 0 where
-  pub form : t ≡ tasksAs (entriesOf t) (waitsOf t)
-  pub fit : WaitsFit (entriesOf t) (waitsOf t)
-  pub few : t.count ≤ maxTasks
-  pub room : t.waiting ≤ maxTasks
+  pub form : t ≡ tasks_as (entries_of t) (waits_of t)
+  pub fit : WaitsFit (entries_of t) (waits_of t)
+  pub few : t.count ≤ max_tasks
+  pub room : t.waiting ≤ max_tasks
 
-abbrev pub isReady : Wait → Bool
-isReady Ready = true
-isReady (OnSem k) = false
-isReady (Receiving k) = false
-isReady (Sending k w) = false
+abbrev pub is_ready : Wait → Bool
+is_ready Ready = true
+is_ready (OnSem k) = false
+is_ready (Receiving k) = false
+is_ready (Sending k w) = false
 
 -- the task with an index is registered and does not wait
 pub record Free (es : List TaskEntry) (ws : List Waiter) (task : ℕ) : Type 0 where
@@ -32,5 +32,5 @@ pub record Free (es : List TaskEntry) (ws : List Waiter) (task : ℕ) : Type 0 w
 
 -- what an effect may take for granted of what the checks found: a caller that is admitted is a ready task, and its object is one of so many
 pub record Passed (ts : Tasks) (objects : ℕ) (check : Check) : Type 0 where
-  pub free : (task object : ℕ) → check ≡ Admitted task object → Free (entriesOf ts) (waitsOf ts) task
+  pub free : (task object : ℕ) → check ≡ Admitted task object → Free (entries_of ts) (waits_of ts) task
   pub there : (task object : ℕ) → check ≡ Admitted task object → object < objects

@@ -6,5 +6,5 @@ abbrev pub lead : ℕ → ℕ → Lead
 lead n p = record { number = n; priority = p }
 
 -- one who comes later leads only if it is more urgent
-abbrev pub leadOf : Lead → ℕ → ℕ → Lead
-leadOf a n p = cond (eqb a.number 0) (lead n p) (cond (ltb p a.priority) (lead n p) a)
+abbrev pub lead_of : Lead → ℕ → ℕ → Lead
+lead_of a n p = cond (eqb a.number 0) (lead n p) (cond (ltb p a.priority) (lead n p) a)

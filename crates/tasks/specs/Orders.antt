@@ -1,19 +1,19 @@
 -- The order of arrival, on arrays. Definitions only.
 use Rattle.std.specs.Prelude.{ℕ, ◌+◌, Bool, cond, not, List, eqb, length, set}
 use Rattle.arrays.specs.Pad.{pad}
-use Rattle.itron.specs.Limits.{maxTasks}
+use Rattle.itron.specs.Limits.{max_tasks}
 use Rattle.model.specs.Lists.{keep}
 use Rattle.tasks.specs.declared.order.Order.{Order}
 
 abbrev pub order_of : List ℕ → Order
-order_of l = record { entries = pad maxTasks 0 l; count = length l }
+order_of l = record { entries = pad max_tasks 0 l; count = length l }
 
-abbrev pub notIndex : ℕ → ℕ → Bool
-notIndex t u = not (eqb t u)
+abbrev pub not_index : ℕ → ℕ → Bool
+not_index t u = not (eqb t u)
 
 -- a list without one number
 abbrev pub without : ℕ → List ℕ → List ℕ
-without t l = keep (notIndex t) l
+without t l = keep (not_index t) l
 
-abbrev pub keptOf : Order → ℕ → ℕ → Order
-keptOf o t left = cond (eqb left t) o (record { entries = set o.entries o.count t; count = o.count + 1 })
+abbrev pub kept_of : Order → ℕ → ℕ → Order
+kept_of o t left = cond (eqb left t) o (record { entries = set o.entries o.count t; count = o.count + 1 })

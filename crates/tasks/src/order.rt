@@ -1,7 +1,7 @@
 // The order in which those who wait began to.
 ghost use Rattle.std.specs.Prelude.{◌≡◌, ◌≤◌, ◌<◌, take};
-ghost use Rattle.itron.specs.Limits.{maxTasks};
-ghost use Rattle.tasks.specs.Orders.{keptOf, order_of, without};
+ghost use Rattle.itron.specs.Limits.{max_tasks};
+ghost use Rattle.tasks.specs.Orders.{kept_of, order_of, without};
 
 use itron::limit::MAX_TASKS;
 
@@ -15,8 +15,8 @@ pub(crate) struct Order {
 impl Order {
     // With one task more, unless it is the one left out.
     pub(crate) fn kept(mut self, task: u8, left: u8) -> Order
-        requires { self.count < maxTasks }
-        ensures { result ≡ keptOf self task left }
+        requires { self.count < max_tasks }
+        ensures { result ≡ kept_of self task left }
     {
         if left == task {
             return self;
@@ -30,7 +30,7 @@ impl Order {
 
 // The first `waiting` entries of the order, one task left out.
 pub(crate) fn without(order: [u8; MAX_TASKS], waiting: usize, left: u8) -> Order
-    requires { waiting ≤ maxTasks }
+    requires { waiting ≤ max_tasks }
     ensures { result ≡ order_of (without left (take waiting order)) }
 {
     let mut rest = Order {

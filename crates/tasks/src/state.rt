@@ -1,12 +1,12 @@
 // All tasks, and those of them who wait in the order in which they began to.
 ghost use Rattle.std.specs.Prelude.{◌≡◌, false, [], ◌∷◌, ◌++◌, suc, ◌<◌, length};
-ghost use Rattle.itron.specs.Limits.{maxDomains, maxTasks};
+ghost use Rattle.itron.specs.Limits.{max_domains, max_tasks};
 ghost use Rattle.model.specs.Conditions.{TaskEntryFits};
-ghost use Rattle.model.specs.Table.{newTask};
+ghost use Rattle.model.specs.Table.{new_task};
 ghost use Rattle.model.specs.Waits.{leave, join};
-ghost use Rattle.tasks.specs.View.{entriesOf, waitsOf, waiterOf};
-ghost use Rattle.tasks.specs.Form.{tasksAs};
-ghost use Rattle.tasks.specs.Held.{Held, Free, isReady};
+ghost use Rattle.tasks.specs.View.{entries_of, waits_of, waiter_of};
+ghost use Rattle.tasks.specs.Form.{tasks_as};
+ghost use Rattle.tasks.specs.Held.{Held, Free, is_ready};
 ghost use Rattle.tasks.specs.Ends.{task_of};
 
 use crate::order;
@@ -25,7 +25,7 @@ pub struct Tasks {
 impl Tasks {
     // No task.
     pub fn empty() -> Tasks
-        ensures { result ≡ tasksAs [] [] }
+        ensures { result ≡ tasks_as [] [] }
     {
         Tasks {
             count: 0,
@@ -42,15 +42,15 @@ impl Tasks {
     // How many tasks there are.
     pub fn len(self) -> usize
         requires { Held self }
-        ensures { result ≡ length (entriesOf self) }
+        ensures { result ≡ length (entries_of self) }
     {
         self.count
     }
 
     // One task more, which is ready.
     pub fn add(mut self, domain: i32, priority: u32) -> Tasks
-        requires { Held self × (length (entriesOf self) < maxTasks) × (waitsOf self ≡ []) × TaskEntryFits maxDomains (newTask domain priority) }
-        ensures { result ≡ tasksAs (entriesOf self ++ (newTask domain priority ∷ [])) (waitsOf self) }
+        requires { Held self × (length (entries_of self) < max_tasks) × (waits_of self ≡ []) × TaskEntryFits max_domains (new_task domain priority) }
+        ensures { result ≡ tasks_as (entries_of self ++ (new_task domain priority ∷ [])) (waits_of self) }
     {
         let at = self.count;
         self.entries[at] = Task {
@@ -65,7 +65,7 @@ impl Tasks {
     // The task with a number.
     pub fn task(self, number: usize) -> Task
         requires { Held self }
-        ensures { result ≡ task_of (entriesOf self) (waitsOf self) number }
+        ensures { result ≡ task_of (entries_of self) (waits_of self) number }
     {
         if number == 0 {
             return Task {
@@ -87,8 +87,8 @@ impl Tasks {
 
     // A waiting task becomes ready.
     pub(crate) fn release(mut self, task: usize) -> Tasks
-        requires { Held self × (task < length (entriesOf self)) }
-        ensures { result ≡ tasksAs (entriesOf self) (leave (suc task) (waitsOf self)) }
+        requires { Held self × (task < length (entries_of self)) }
+        ensures { result ≡ tasks_as (entries_of self) (leave (suc task) (waits_of self)) }
     {
         let order = self.order;
         let rest = order::without(order, self.waiting, task as u8);
@@ -103,8 +103,8 @@ impl Tasks {
 
     // A ready task waits, the last of all.
     pub(crate) fn join(mut self, task: usize, wait: Wait) -> Tasks
-        requires { Held self × Free (entriesOf self) (waitsOf self) task × (isReady wait ≡ false) }
-        ensures { result ≡ tasksAs (entriesOf self) (join (waiterOf (suc task) wait) (waitsOf self)) }
+        requires { Held self × Free (entries_of self) (waits_of self) task × (is_ready wait ≡ false) }
+        ensures { result ≡ tasks_as (entries_of self) (join (waiter_of (suc task) wait) (waits_of self)) }
     {
         let at = self.waiting;
         self.order[at] = task as u8;

@@ -1,6 +1,6 @@
 // One task.
 ghost use Rattle.std.specs.Prelude.{◌≡◌};
-ghost use Rattle.tasks.specs.View.{withWait};
+ghost use Rattle.tasks.specs.View.{with_wait};
 
 // What a task does: ready, or waiting with the index of its object. An index is a number less 1; indexes of tasks and objects
 // are kept as bytes, since the whole state is copied by every call.
@@ -41,7 +41,7 @@ impl Task {
 
     // The same task, which now does something else.
     pub(crate) fn with_wait(self, wait: Wait) -> Task
-        ensures { result ≡ withWait self wait }
+        ensures { result ≡ with_wait self wait }
     {
         Task {
             domain: self.domain,

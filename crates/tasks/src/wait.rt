@@ -1,10 +1,10 @@
 // Wait queues: who is first at a place, who calls, who is woken and who begins to wait.
 ghost use Rattle.std.specs.Prelude.{◌≡◌, true, false, [], map, ℕ, suc, ◌<◌, length, get_or};
-ghost use Rattle.model.specs.State.{place, samePlace, sideNumber, no};
-ghost use Rattle.model.specs.Waits.{waitersIn, standing, firstTask, orWaits};
-ghost use Rattle.tasks.specs.View.{entriesOf, waitsOf, waiterOf};
-ghost use Rattle.tasks.specs.Held.{Held, Free, isReady};
-ghost use Rattle.tasks.specs.Ends.{first_of, taskIn, callerOf, ended_of, wokenOf};
+ghost use Rattle.model.specs.State.{place, same_place, side_number, no};
+ghost use Rattle.model.specs.Waits.{waiters_in, standing, first_task, or_waits};
+ghost use Rattle.tasks.specs.View.{entries_of, waits_of, waiter_of};
+ghost use Rattle.tasks.specs.Held.{Held, Free, is_ready};
+ghost use Rattle.tasks.specs.Ends.{first_of, task_in, caller_of, ended_of, woken_of};
 
 use crate::lead::Lead;
 use crate::state::Tasks;
@@ -36,7 +36,7 @@ pub struct Ended {
 
 // A side by its number.
 pub(crate) fn side_number(side: Side) -> usize
-    ensures { result ≡ sideNumber side }
+    ensures { result ≡ side_number side }
 {
     match side {
         Side::OnSem => 0,
@@ -47,7 +47,7 @@ pub(crate) fn side_number(side: Side) -> usize
 
 // Whether a place is the one with another side and index.
 pub(crate) fn is_same(side: Side, object: usize, other: Side, index: u8) -> bool
-    ensures { result ≡ samePlace (place side (suc object)) (place other (suc index)) }
+    ensures { result ≡ same_place (place side (suc object)) (place other (suc index)) }
 {
     if side_number(side) == side_number(other) {
         return object == index as usize;
@@ -57,7 +57,7 @@ pub(crate) fn is_same(side: Side, object: usize, other: Side, index: u8) -> bool
 
 // Whether a task that does this waits at a place.
 pub(crate) fn waits_at(wait: Wait, side: Side, object: usize) -> bool
-    ensures { result ≡ samePlace (place side (suc object)) (waiterOf 0 wait).place }
+    ensures { result ≡ same_place (place side (suc object)) (waiter_of 0 wait).place }
 {
     match wait {
         Wait::Ready => false,
@@ -69,7 +69,7 @@ pub(crate) fn waits_at(wait: Wait, side: Side, object: usize) -> bool
 
 // The word that a sending task waits with; 0 of any other.
 pub(crate) fn word_of(wait: Wait) -> u32
-    ensures { result ≡ (waiterOf 0 wait).word }
+    ensures { result ≡ (waiter_of 0 wait).word }
 {
     match wait {
         Wait::Sending(_, word) => word,
@@ -81,7 +81,7 @@ impl Tasks {
     // The number of the one who waits at a place and came with k ahead of it; 0 if no more than k do.
     pub(crate) fn arrived(self, side: Side, object: usize, k: usize) -> usize
         requires { Held self }
-        ensures { result ≡ get_or (map taskIn (waitersIn (waitsOf self) (place side (suc object)))) k 0 }
+        ensures { result ≡ get_or (map task_in (waiters_in (waits_of self) (place side (suc object)))) k 0 }
     {
         let waiting = self.waiting;
         // Measured: spares the copies below where nobody waits.
@@ -111,7 +111,7 @@ impl Tasks {
     // The number of the most urgent who waits at a place, of equals the one who came first; 0 if nobody does.
     pub(crate) fn most_urgent(self, side: Side, object: usize) -> usize
         requires { Held self }
-        ensures { result ≡ firstTask (standing true (entriesOf self) (waitersIn (waitsOf self) (place side (suc object)))) }
+        ensures { result ≡ first_task (standing true (entries_of self) (waiters_in (waits_of self) (place side (suc object)))) }
     {
         let waiting = self.waiting;
         // As in `arrived`.
@@ -141,7 +141,7 @@ impl Tasks {
     // The number of the one who stands at a place by priority with k ahead of it; 0 if no more than k do.
     pub(crate) fn ranked(mut self, side: Side, object: usize, k: usize) -> usize
         requires { Held self }
-        ensures { result ≡ get_or (map taskIn (standing true (entriesOf self) (waitersIn (waitsOf self) (place side (suc object))))) k 0 }
+        ensures { result ≡ get_or (map task_in (standing true (entries_of self) (waiters_in (waits_of self) (place side (suc object))))) k 0 }
     {
         let mut ahead = k;
         while 0 < ahead {
@@ -160,7 +160,7 @@ impl Tasks {
     // The number of the one who stands at a place with k ahead of it, by priority or as they came; 0 if no more than k do.
     pub fn waiter(self, side: Side, object: usize, by_priority: bool, k: usize) -> usize
         requires { Held self }
-        ensures { result ≡ get_or (map taskIn (standing by_priority (entriesOf self) (waitersIn (waitsOf self) (place side (suc object))))) k 0 }
+        ensures { result ≡ get_or (map task_in (standing by_priority (entries_of self) (waiters_in (waits_of self) (place side (suc object))))) k 0 }
     {
         if by_priority {
             return self.ranked(side, object, k);
@@ -171,7 +171,7 @@ impl Tasks {
     // The first who stands at a place, by priority or as they came.
     pub fn first(self, side: Side, object: usize, by_priority: bool) -> First
         requires { Held self }
-        ensures { result ≡ first_of (standing by_priority (entriesOf self) (waitersIn (waitsOf self) (place side (suc object)))) }
+        ensures { result ≡ first_of (standing by_priority (entries_of self) (waiters_in (waits_of self) (place side (suc object)))) }
     {
         let number = self.first_number(side, object, by_priority);
         if number == 0 {
@@ -187,7 +187,7 @@ impl Tasks {
     // The number of the first who stands at a place, by priority or as they came; 0 if nobody does.
     pub fn first_number(self, side: Side, object: usize, by_priority: bool) -> usize
         requires { Held self }
-        ensures { result ≡ firstTask (standing by_priority (entriesOf self) (waitersIn (waitsOf self) (place side (suc object)))) }
+        ensures { result ≡ first_task (standing by_priority (entries_of self) (waiters_in (waits_of self) (place side (suc object)))) }
     {
         if by_priority {
             return self.most_urgent(side, object);
@@ -198,7 +198,7 @@ impl Tasks {
     // Who calls under a number: only a registered ready task may.
     pub fn caller(self, number: i32) -> Caller
         requires { Held self }
-        ensures { result ≡ callerOf (entriesOf self) (waitsOf self) (no number) }
+        ensures { result ≡ caller_of (entries_of self) (waits_of self) (no number) }
     {
         let ordinal = domain::ordinal(number, self.count);
         if ordinal == 0 {
@@ -215,8 +215,8 @@ impl Tasks {
 
     // A waiting task is released and handed a word; the caller gets E_OK and a word.
     pub fn wake(mut self, task: usize, word: u32, handed: u32) -> Ended
-        requires { Held self × (task < length (entriesOf self)) }
-        ensures { result ≡ wokenOf (entriesOf self) (waitsOf self) task word handed }
+        requires { Held self × (task < length (entries_of self)) }
+        ensures { result ≡ woken_of (entries_of self) (waits_of self) task word handed }
     {
         let number = task + 1;
         self = self.release(task);
@@ -235,8 +235,8 @@ impl Tasks {
 
     // The caller waits, if it has the patience.
     pub fn or_wait(self, task: usize, wait: Wait, patience: Patience) -> Ended
-        requires { Held self × Free (entriesOf self) (waitsOf self) task × (isReady wait ≡ false) }
-        ensures { result ≡ ended_of (entriesOf self) (orWaits {R = ℕ} (waitsOf self) [] patience (waiterOf (suc task) wait)) }
+        requires { Held self × Free (entries_of self) (waits_of self) task × (is_ready wait ≡ false) }
+        ensures { result ≡ ended_of (entries_of self) (or_waits {R = ℕ} (waits_of self) [] patience (waiter_of (suc task) wait)) }
     {
         match patience {
             Patience::Polling => Ended {

@@ -2,5 +2,5 @@
 use Rattle.std.specs.Prelude.{ℕ}
 
 -- the bytes that a name can have
-abbrev pub longestName : ℕ
-longestName = 8
+abbrev pub longest_name : ℕ
+longest_name = 8

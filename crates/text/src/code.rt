@@ -1,7 +1,7 @@
 // Result codes by their names (document 01, "Codes a desk clerk sees"; E_SYS: request T-03; E_ILUSE: request T-05).
 ghost use Rattle.std.specs.Prelude.{◌≡◌, length};
 ghost use Rattle.io.specs.Counts.{IsPrefixLen};
-ghost use Rattle.text.specs.Names.{longestName};
+ghost use Rattle.text.specs.Names.{longest_name};
 
 use itron::code::{
     E_CTX, E_ID, E_ILUSE, E_MACV, E_NOEXS, E_NOID, E_NOMEM, E_OACV, E_OBJ, E_OK, E_PAR, E_QOVR,
@@ -13,7 +13,7 @@ pub const LONGEST_NAME: usize = 8;
 
 // A name goes to the front of a block; how many bytes it has.
 fn put(out: &mut [u8; LONGEST_NAME], name: &[u8]) -> usize
-    requires { length out.old ≡ longestName }
+    requires { length out.old ≡ longest_name }
     ensures { IsPrefixLen result out.new }
 {
     let mut i: usize = 0;
@@ -29,7 +29,7 @@ fn put(out: &mut [u8; LONGEST_NAME], name: &[u8]) -> usize
 
 // The name of a code goes to the front of a block; how many bytes it has, 0 for a number that is no code.
 pub fn put_name(out: &mut [u8; LONGEST_NAME], number: i32) -> usize
-    requires { length out.old ≡ longestName }
+    requires { length out.old ≡ longest_name }
     ensures { IsPrefixLen result out.new }
 {
     match number {

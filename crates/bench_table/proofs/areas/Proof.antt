@@ -1,7 +1,7 @@
 -- `areas` meets its contract. Assumes nothing.
 use mathlib.Core.Path.{◌∙◌}
 use Rattle.model.specs.Table.{region, enter}
-use Rattle.laws.specs.Starred.{kernelDomain}
+use Rattle.laws.specs.Starred.{kernel_domain}
 use Rattle.kernel.specs.View.{view_of}
 -- `areas` meets its contract: entry by entry. Assumes nothing.
 use borrow.Author.Rules.{rules}
@@ -29,11 +29,11 @@ returns c =
     let x = c.before.before.before.before.before.given.ensures in
     let y = c.before.before.given2.ensures in
     let s = c.before.before.before.before.before.before.args.s in
-    let a = c.before.before.before.before.add-region.ensures.seen ∙ (λ i. (enter (view_of s) (region kernelDomain 5 4096 4096 (x i))).state) in
-    (p.valid, p.seen ∙ (λ i. (enter (a i) (region kernelDomain 0 8192 4096 (y i))).state))
+    let a = c.before.before.before.before.add-region.ensures.seen ∙ (λ i. (enter (view_of s) (region kernel_domain 5 4096 4096 (x i))).state) in
+    (p.valid, p.seen ∙ (λ i. (enter (a i) (region kernel_domain 0 8192 4096 (y i))).state))
 
-pub areas-spec : {M : Type 1} → statement M
-areas-spec =
+pub areas_spec : {M : Type 1} → statement M
+areas_spec =
     tie.close
     (tie.spec
     add-t3

@@ -1,7 +1,7 @@
 -- `objects` meets its contract. Assumes nothing.
 use mathlib.Core.Path.{◌∙◌}
 use Rattle.model.specs.Table.{sem, queue, enter}
-use Rattle.laws.specs.Starred.{kernelDomain}
+use Rattle.laws.specs.Starred.{kernel_domain}
 use Rattle.kernel.specs.View.{view_of}
 -- `objects` meets its contract: entry by entry. Assumes nothing.
 use borrow.Author.Rules.{rules}
@@ -33,12 +33,12 @@ returns c =
     let y = c.before.before.before.before.before.given2.ensures in
     let z = c.before.before.given3.ensures in
     let s = c.before.before.before.before.before.before.before.before.before.args.s in
-    let a = c.before.before.before.before.before.before.before.add-semaphore.ensures.seen ∙ (λ i. (enter (view_of s) (sem kernelDomain 0 1 2 (x i))).state) in
-    let d = c.before.before.before.before.add-queue.ensures.seen ∙ (λ i. (enter (a i) (queue kernelDomain 0 2 (y i))).state) in
-    (p.valid, p.seen ∙ (λ i. (enter (d i) (queue kernelDomain 0 0 (z i))).state))
+    let a = c.before.before.before.before.before.before.before.add-semaphore.ensures.seen ∙ (λ i. (enter (view_of s) (sem kernel_domain 0 1 2 (x i))).state) in
+    let d = c.before.before.before.before.add-queue.ensures.seen ∙ (λ i. (enter (a i) (queue kernel_domain 0 2 (y i))).state) in
+    (p.valid, p.seen ∙ (λ i. (enter (d i) (queue kernel_domain 0 0 (z i))).state))
 
-pub objects-spec : {M : Type 1} → statement M
-objects-spec =
+pub objects_spec : {M : Type 1} → statement M
+objects_spec =
     tie.close
     (tie.spec
     given-requires

@@ -2,7 +2,7 @@
 use mathlib.Core.Path.{sym, ap, ◌∙◌}
 use lib.ListN.{length}
 use borrow.Author.Rules.{rules}
-use Rattle.regions.proofs.Searches.{is-nothing}
+use Rattle.regions.proofs.Searches.{is_nothing}
 use Rattle.finding.specs.Index.{index_of}
 use Rattle.finding.proofs.finding_find.Statement.{statement}
 use Rattle.finding.proofs.finding_find.Tie as tie
@@ -25,7 +25,7 @@ returns c =
 returns-2 : tie.Need-returns-2
 returns-2 c =
     let f = c.before.before in
-    sym (ap (index_of (length f.before.before.before.args.bases.now)) (sym f.find.ensures ∙ is-nothing f.find.result c.before.match.keys2))
+    sym (ap (index_of (length f.before.before.before.args.bases.now)) (sym f.find.ensures ∙ is_nothing f.find.result c.before.match.keys2))
 
-pub finding-find-spec : {M : Type 1} → statement M
-finding-find-spec = tie.close (tie.spec find-requires enum-known-index enum_told returns returns-2)
+pub finding_find_spec : {M : Type 1} → statement M
+finding_find_spec = tie.close (tie.spec find-requires enum-known-index enum_told returns returns-2)

@@ -16,5 +16,5 @@ same_length c = search rules
 returns : tie.Need-returns
 returns c = hosted c.before.before.before.before.closed.ensures.1 c.before.before.run.ensures
 
-pub host-run-spec : {M : Type 1} → statement M
-host-run-spec = tie.close (tie.spec closed-requires run-requires same_length returns)
+pub host_run_spec : {M : Type 1} → statement M
+host_run_spec = tie.close (tie.spec closed-requires run-requires same_length returns)

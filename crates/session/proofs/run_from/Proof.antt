@@ -34,8 +34,8 @@ finish-requires c κs = search rules
 returns : tie.Need-returns invariant-loop decreases-loop
 returns c = search rules
 
-pub run-from-spec : {M : Type 1} → statement M
-run-from-spec =
+pub run_from_spec : {M : Type 1} → statement M
+run_from_spec =
     tie.close
     (tie.spec
     invariant-loop

@@ -5,23 +5,23 @@ use mathlib.Core.Bool.{false}
 use lib.IntN.{pos}
 use lib.Signed.{lt_z}
 use mir.Facts.{to_z-of_z, Fits-nat_abs}
-use Rattle.access.proofs.Ordinals.{not-below-sign}
-use Rattle.access.proofs.Audits.{refused-below, audit-over, audit-within}
+use Rattle.access.proofs.Ordinals.{not_below_sign}
+use Rattle.access.proofs.Audits.{refused_below, audit_over, audit_within}
 use Rattle.access.proofs.audit.audit.Statement.{statement}
 use Rattle.access.proofs.audit.audit.Tie as tie
 
 returns : tie.Need-returns
-returns c = refused-below _ _ (rw (to_z-of_z c.before.ranges.n) at c.if1.true)
+returns c = refused_below _ _ (rw (to_z-of_z c.before.ranges.n) at c.if1.true)
 
 -- past the test of the sign, of n itself
 signed : (c : tie.Else1) → lt_z c.before.args.n (pos 0) ≡ false
 signed c = rw (to_z-of_z c.before.ranges.n) at c.if1.false
 
 cast-domains : tie.Need-overflow-cast-domains
-cast-domains c = rw (to_z-of_z c.before.ranges.n) (not-below-sign c.before.args.n 0 (signed c), Fits-nat_abs tt c.before.ranges.n)
+cast-domains c = rw (to_z-of_z c.before.ranges.n) (not_below_sign c.before.args.n 0 (signed c), Fits-nat_abs tt c.before.ranges.n)
 
 returns-2 : tie.Need-returns-2
-returns-2 c = audit-over _ _ (signed c.before) (rw (to_z-of_z c.before.before.ranges.n) at c.if2.true)
+returns-2 c = audit_over _ _ (signed c.before) (rw (to_z-of_z c.before.before.ranges.n) at c.if2.true)
 
 report-requires : tie.Need-report-requires
 report-requires c κs = search rules
@@ -40,10 +40,10 @@ returns-3 c =
     let e = c.before.before.before.before in
     let b = e.before.before in
     rw (c.before.before.before.report.ensures, c.before.before.report2.ensures, c.before.report3.ensures, c.report4.ensures, to_z-of_z b.ranges.n)
-    (audit-within b.args.vector b.args.n (signed e.before) (rw (to_z-of_z b.ranges.n) at e.if2.false))
+    (audit_within b.args.vector b.args.n (signed e.before) (rw (to_z-of_z b.ranges.n) at e.if2.false))
 
-pub audit-spec : {M : Type 1} → statement M
-audit-spec =
+pub audit_spec : {M : Type 1} → statement M
+audit_spec =
     tie.close
     (tie.spec
     returns

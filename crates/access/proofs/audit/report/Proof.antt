@@ -6,9 +6,9 @@ use lib.Pow.{pow_pos}
 use lib.Bits.{bit_and}
 use lib.Count.{trailing_le}
 use mir.Facts.{Fits-and}
-use Rattle.itron.specs.Limits.{maxDomains}
+use Rattle.itron.specs.Limits.{max_domains}
 use Rattle.access.proofs.Patterns.{one_bit}
-use Rattle.access.proofs.Audits.{mask, report-none, report-some}
+use Rattle.access.proofs.Audits.{mask, report_none, report_some}
 use borrow.Author.Rules.{rules}
 use Rattle.access.proofs.audit.report.Statement.{statement}
 use Rattle.access.proofs.audit.report.Tie as tie
@@ -23,13 +23,13 @@ cast-masked : tie.Need-overflow-cast-masked
 cast-masked c = Fits-and _ c.ranges.pattern
 
 returns : tie.Need-returns
-returns c = let a = c.before.args in report-none a.pattern a.n c.before.requires (sym (mask a.pattern a.n c.before.requires) ∙ c.if1.true)
+returns c = let a = c.before.args in report_none a.pattern a.n c.before.requires (sym (mask a.pattern a.n c.before.requires) ∙ c.if1.true)
 
 add-t11 : tie.Need-overflow-add-t11
-add-t11 c = omega (arith, trailing_le maxDomains (bit_and c.before.args.pattern (1 * 2 ^ c.before.args.n % 2 ^ 64 - 1)))
+add-t11 c = omega (arith, trailing_le max_domains (bit_and c.before.args.pattern (1 * 2 ^ c.before.args.n % 2 ^ 64 - 1)))
 
 returns-2 : tie.Need-returns-2
-returns-2 c = let a = c.before.args in report-some a.pattern a.n _ c.before.requires (mask a.pattern a.n c.before.requires) c.if1.false
+returns-2 c = let a = c.before.args in report_some a.pattern a.n _ c.before.requires (mask a.pattern a.n c.before.requires) c.if1.false
 
-pub report-spec : {M : Type 1} → statement M
-report-spec = tie.close (tie.spec shl-above sub-masked cast-masked returns add-t11 returns-2)
+pub report_spec : {M : Type 1} → statement M
+report_spec = tie.close (tie.spec shl-above sub-masked cast-masked returns add-t11 returns-2)

@@ -51,8 +51,8 @@ array-write-words-11 c = search rules
 returns : tie.Need-returns
 returns c = rw c.before.before.before.outcome-word.ensures
 
-pub answered-spec : {M : Type 1} → statement M
-answered-spec =
+pub answered_spec : {M : Type 1} → statement M
+answered_spec =
     tie.close
     (tie.spec
     outcome-word-requires

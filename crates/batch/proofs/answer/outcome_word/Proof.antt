@@ -4,7 +4,7 @@ use mir.Syntax.{w32}
 use mir.Val.{to_z, of_z}
 -- `answer::outcome_word` meets its contract: a code, waiting. Assumes nothing.
 use mathlib.Core.Path.{sym, ap}
-use Rattle.batch.specs.Encoding.{outcomeWord}
+use Rattle.batch.specs.Encoding.{outcome_word}
 use borrow.Author.Rules.{rules}
 use Rattle.batch.proofs.answer.outcome_word.Statement.{statement}
 use Rattle.batch.proofs.answer.outcome_word.Tie as tie
@@ -19,11 +19,11 @@ enum_told : tie.Need-enum-told
 enum_told c = search rules
 
 returns : tie.Need-returns
-returns c = let e : to_z w32 (of_z w32 c.before.before.outcome.given.0.0) ≡ c.before.before.outcome.given.0.0 = search rules in c.unsigned.ensures ∙ ap (of_z w32) e ∙ ap outcomeWord (sym c.before.before.outcome.given.1)
+returns c = let e : to_z w32 (of_z w32 c.before.before.outcome.given.0.0) ≡ c.before.before.outcome.given.0.0 = search rules in c.unsigned.ensures ∙ ap (of_z w32) e ∙ ap outcome_word (sym c.before.before.outcome.given.1)
 
 returns-2 : tie.Need-returns-2
 returns-2 c = search rules
 
-pub outcome-word-spec : {M : Type 1} → statement M
-outcome-word-spec =
+pub outcome_word_spec : {M : Type 1} → statement M
+outcome_word_spec =
     tie.close (tie.spec enum-known-outcome unsigned-requires enum_told returns returns-2)

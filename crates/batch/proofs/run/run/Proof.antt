@@ -7,8 +7,8 @@ use mir.Syntax.{w64}
 use mir.Val.{Fits}
 use native.Mathlib.Omega.{arith}
 use borrow.Author.Rules.{rules}
-use Rattle.batch.proofs.Loops.{Loop, loop-start, loop-next, loop-length, loop-end, answerable-room}
-use Rattle.batch.specs.Encoding.{answerWords}
+use Rattle.batch.proofs.Loops.{Loop, loop_start, loop_next, loop_length, loop_end, answerable_room}
+use Rattle.batch.specs.Encoding.{answer_words}
 use Rattle.batch.proofs.run.run.Statement.{statement}
 use Rattle.batch.proofs.run.run.Tie as tie
 
@@ -22,13 +22,13 @@ count-requires : tie.Need-count-requires invariant-loop decreases-loop
 count-requires c κs = search rules
 
 loop-holds : tie.Need-loop-init invariant-loop decreases-loop
-loop-holds c = let b = c.before.before.before in (omega arith, loop-start b.args.state b.args.calls.now b.args.answers.now b.requires)
+loop-holds c = let b = c.before.before.before in (omega arith, loop_start b.args.state b.args.calls.now b.args.answers.now b.requires)
 
 step-requires : tie.Need-step-requires invariant-loop decreases-loop
 step-requires c κs =
     let a = c.before.before.before.before.before.args in
     let e = c.before.before.count.ensures in
-    let r = (answerable-room (length a.calls.now) (length a.answers.now)).0 in
+    let r = (answerable_room (length a.calls.now) (length a.answers.now)).0 in
     (c.before.loop.invariant.1.valid, omega arith)
 
 mul-write : tie.Need-overflow-mul-write invariant-loop decreases-loop
@@ -36,9 +36,9 @@ mul-write c =
     let b = c.before.before.before.before.before in
     let a = b.before.before.before.before.args in
     let e = b.before.count.ensures in
-    let r = (answerable-room (length a.calls.now) (length a.answers.now)).1 in
+    let r = (answerable_room (length a.calls.now) (length a.answers.now)).1 in
     let g = b.before.before.before.before.well-formed.1.1.0.0 in
-    let f : Fits w64 (b.loop.k * answerWords) = omega arith in
+    let f : Fits w64 (b.loop.k * answer_words) = omega arith in
     f
 
 write-requires : tie.Need-write-requires invariant-loop decreases-loop
@@ -46,9 +46,9 @@ write-requires c κs =
     let b = c.before.before.before.before.before in
     let a = b.before.before.before.before.args in
     let e = b.before.count.ensures in
-    let r = (answerable-room (length a.calls.now) (length a.answers.now)).1 in
-    let l = loop-length b.loop.invariant.1 (omega arith) in
-    let f : b.loop.k * answerWords + answerWords ≤ length b.loop.answers = omega arith in
+    let r = (answerable_room (length a.calls.now) (length a.answers.now)).1 in
+    let l = loop_length b.loop.invariant.1 (omega arith) in
+    let f : b.loop.k * answer_words + answer_words ≤ length b.loop.answers = omega arith in
     f
 
 add-k : tie.Need-overflow-add-k invariant-loop decreases-loop
@@ -61,7 +61,7 @@ loop-again : tie.Need-loop-preserved invariant-loop decreases-loop
 loop-again c =
     let b = c.before.before.before.before.before.before.before.before in
     let w = c.before.before.write.ensures in
-    let n = loop-next b.loop.invariant.1 c.before.before.before.before.before.before.step.ensures in
+    let n = loop_next b.loop.invariant.1 c.before.before.before.before.before.before.step.ensures in
     let a = b.before.before.before.before.args in
     (omega arith, subst (λ (l : List ℕ). Loop a.state a.calls.now a.answers.now c.before.before.before.before.before.before.step.result.state l (b.loop.k + 1)) (sym w) n)
 
@@ -69,11 +69,11 @@ same_length : tie.Need-same-length invariant-loop decreases-loop
 same_length c =
     let a = c.before.before.before.before.before.args in
     let e = c.before.before.count.ensures in
-    let r = (answerable-room (length a.calls.now) (length a.answers.now)).1 in
-    loop-length c.before.loop.invariant.1 (omega arith)
+    let r = (answerable_room (length a.calls.now) (length a.answers.now)).1 in
+    loop_length c.before.loop.invariant.1 (omega arith)
 
 returns : tie.Need-returns invariant-loop decreases-loop
-returns c = let k : c.before.loop.k ≡ c.before.before.count.result = omega arith in loop-end c.before.before.count.ensures k c.before.loop.invariant.1
+returns c = let k : c.before.loop.k ≡ c.before.before.count.result = omega arith in loop_end c.before.before.count.ensures k c.before.loop.invariant.1
 
 pub run_spec : {M : Type 1} → statement M
 run_spec =

@@ -6,7 +6,7 @@ use mathlib.Core.Option.{Option, none}
 use lib.ListN.{length}
 use borrow.Author.Tests.{lt-leb, le-leb}
 use Rattle.model.specs.Calls.{Call}
-use Rattle.batch.specs.Encoding.{call_words, numbersAt, item_of, item_at}
+use Rattle.batch.specs.Encoding.{call_words, numbers_at, item_of, item_at}
 use Rattle.batch.specs.Made.{Performs}
 use borrow.Author.Rules.{rules}
 use Rattle.batch.proofs.run.step.Statement.{statement}
@@ -25,7 +25,7 @@ returns : tie.Need-returns
 returns c =
     let a = c.before.before.before.args in
     let ws = a.calls.now in
-    let e : none ≡ item_at ws a.k = sym (ap (λ (b : Bool). cond b (item_of (numbersAt ws (a.k * call_words))) none) (lt-leb (a.k * call_words + call_words) (length ws) c.before.if1.true)) in
+    let e : none ≡ item_at ws a.k = sym (ap (λ (b : Bool). cond b (item_of (numbers_at ws (a.k * call_words))) none) (lt-leb (a.k * call_words + call_words) (length ws) c.before.if1.true)) in
     subst (λ (x : Option Call). Performs a.state x c.refused.result) e c.refused.ensures
 
 read-requires : tie.Need-read-requires
@@ -38,7 +38,7 @@ returns-2 : tie.Need-returns-2
 returns-2 c =
     let a = c.before.before.before.before.args in
     let ws = a.calls.now in
-    let e : item_of (numbersAt ws (a.k * call_words)) ≡ item_at ws a.k = sym (ap (λ (b : Bool). cond b (item_of (numbersAt ws (a.k * call_words))) none) (le-leb (a.k * call_words + call_words) (length ws) c.before.before.if1.false)) in
+    let e : item_of (numbers_at ws (a.k * call_words)) ≡ item_at ws a.k = sym (ap (λ (b : Bool). cond b (item_of (numbers_at ws (a.k * call_words))) none) (le-leb (a.k * call_words + call_words) (length ws) c.before.before.if1.false)) in
     subst (λ (x : Option Call). Performs a.state x c.perform.result) (ap item_of c.before.read.ensures ∙ e) c.perform.ensures
 
 pub step_spec : {M : Type 1} → statement M

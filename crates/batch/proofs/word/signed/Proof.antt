@@ -2,7 +2,7 @@
 use mathlib.Core.Path.{◌∙◌}
 use native.Mathlib.Omega.{arith}
 use mir.Facts.{to_z-of_z}
-use Rattle.batch.proofs.Words.{high_fits, high-signed}
+use Rattle.batch.proofs.Words.{high_fits, high_signed}
 use borrow.Author.Rules.{rules}
 use Rattle.batch.proofs.word.signed.Statement.{statement}
 use Rattle.batch.proofs.word.signed.Tie as tie
@@ -23,8 +23,8 @@ sub-result-2 : tie.Need-overflow-sub-result-2
 sub-result-2 c = let x = c.before in high_fits x.args.word (omega arith) x.ranges.word.fits
 
 returns-2 : tie.Need-returns-2
-returns-2 c = let x = c.before in to_z-of_z (high_fits x.args.word (omega arith) x.ranges.word.fits) ∙ high-signed x.args.word (omega arith) x.ranges.word.fits
+returns-2 c = let x = c.before in to_z-of_z (high_fits x.args.word (omega arith) x.ranges.word.fits) ∙ high_signed x.args.word (omega arith) x.ranges.word.fits
 
-pub signed-spec : {M : Type 1} → statement M
-signed-spec =
+pub signed_spec : {M : Type 1} → statement M
+signed_spec =
     tie.close (tie.spec cast-result returns sub-result cast-result-2 sub-result-2 returns-2)

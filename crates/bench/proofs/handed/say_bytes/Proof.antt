@@ -47,8 +47,8 @@ loop-again c = search rules
 returns-2 : tie.Need-returns-2 invariant-loop decreases-loop
 returns-2 c = search rules
 
-pub say-bytes-spec : {M : Type 1} → statement M
-say-bytes-spec =
+pub say_bytes_spec : {M : Type 1} → statement M
+say_bytes_spec =
     tie.close
     (tie.spec
     invariant-loop

@@ -49,8 +49,8 @@ fresh-requires-4 c κs = search rules
 returns : tie.Need-returns invariant-loop decreases-loop
 returns c = search rules
 
-pub which-spec : {M : Type 1} → statement M
-which-spec =
+pub which_spec : {M : Type 1} → statement M
+which_spec =
     tie.close
     (tie.spec
     invariant-loop

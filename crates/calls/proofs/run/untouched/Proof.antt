@@ -37,8 +37,8 @@ loop-again c = search rules
 returns : tie.Need-returns invariant-loop decreases-loop
 returns c = search rules
 
-pub untouched-spec : {M : Type 1} → statement M
-untouched-spec =
+pub untouched_spec : {M : Type 1} → statement M
+untouched_spec =
     tie.close
     (tie.spec
     invariant-loop

@@ -3,13 +3,13 @@ use Prim.Native.Nat.{◌-◌, ◌≤◌, ◌<◌}
 use mathlib.Core.Path.{◌≡◌, sym, ◌∙◌}
 use lib.ListN.{length, drop, get_or}
 use borrow.Author.Rules.{rules}
-use Rattle.command.specs.Numbers.{digitOf, areDigits}
-use Rattle.command.proofs.Digits.{digits-go, digits-stop, digits-end}
+use Rattle.command.specs.Numbers.{digit_of, are_digits}
+use Rattle.command.proofs.Digits.{digits_go, digits_stop, digits_end}
 use Rattle.command.proofs.number.are_digits.Statement.{statement}
 use Rattle.command.proofs.number.are_digits.Tie as tie
 
 abbrev invariant-loop : tie.invariant-loop
-invariant-loop text base i₀ i = (i ≤ length text) × (areDigits base text ≡ areDigits base (drop i text))
+invariant-loop text base i₀ i = (i ≤ length text) × (are_digits base text ≡ are_digits base (drop i text))
 
 abbrev decreases-loop : tie.decreases-loop
 decreases-loop text base i₀ i = length text - i
@@ -28,8 +28,8 @@ returns c =
     let l = c.before.before.before.before in
     let a = l.before.before.args in
     let t = a.text.now in
-    let d : a.base ≤ digitOf (get_or t l.loop.i 0) = rw (← c.before.digit.ensures) c.if1.true in
-    sym (l.loop.invariant.1 ∙ digits-stop t a.base l.loop.i c.before.before.before.loop-test.true d)
+    let d : a.base ≤ digit_of (get_or t l.loop.i 0) = rw (← c.before.digit.ensures) c.if1.true in
+    sym (l.loop.invariant.1 ∙ digits_stop t a.base l.loop.i c.before.before.before.loop-test.true d)
 
 add-i : tie.Need-overflow-add-i invariant-loop decreases-loop
 add-i c = search rules
@@ -42,17 +42,17 @@ loop-again c =
     let l = c.before.before.before.before in
     let a = l.before.before.args in
     let t = a.text.now in
-    let d : digitOf (get_or t l.loop.i 0) < a.base = rw (← c.before.digit.ensures) c.if1.false in
-    (search rules, l.loop.invariant.1 ∙ digits-go t a.base l.loop.i c.before.before.before.loop-test.true d)
+    let d : digit_of (get_or t l.loop.i 0) < a.base = rw (← c.before.digit.ensures) c.if1.false in
+    (search rules, l.loop.invariant.1 ∙ digits_go t a.base l.loop.i c.before.before.before.loop-test.true d)
 
 returns-2 : tie.Need-returns-2 invariant-loop decreases-loop
 returns-2 c =
     let l = c.before in
     let a = l.before.before.args in
-    sym (l.loop.invariant.1 ∙ digits-end a.text.now a.base l.loop.i c.loop-test.false)
+    sym (l.loop.invariant.1 ∙ digits_end a.text.now a.base l.loop.i c.loop-test.false)
 
-pub are-digits-spec : {M : Type 1} → statement M
-are-digits-spec =
+pub are_digits_spec : {M : Type 1} → statement M
+are_digits_spec =
     tie.close
     (tie.spec
     invariant-loop

@@ -2,7 +2,7 @@
 use borrow.Author.Rules.{rules}
 use mathlib.Core.Path.{sym, ap, ◌∙◌}
 use borrow.Author.Tests.{eq-eqb, ne_eqb}
-use Rattle.command.specs.Numbers.{unsignedOf}
+use Rattle.command.specs.Numbers.{unsigned_of}
 use Rattle.command.proofs.number.as_unsigned.Statement.{statement}
 use Rattle.command.proofs.number.as_unsigned.Tie as tie
 
@@ -19,27 +19,27 @@ enum-known-number-2 : tie.Need-enum-known-number-2
 enum-known-number-2 c = search rules
 
 returns : tie.Need-returns
-unfolding unsignedOf
-returns c = sym (ap unsignedOf c.before.before.number2.given.1 ∙ rw (eq-eqb _ _ c.if1.true))
+unfolding unsigned_of
+returns c = sym (ap unsigned_of c.before.before.number2.given.1 ∙ rw (eq-eqb _ _ c.if1.true))
 
 returns-2 : tie.Need-returns-2
-unfolding unsignedOf
+unfolding unsigned_of
 returns-2 c = search rules
 
 returns-3 : tie.Need-returns-3
-unfolding unsignedOf
+unfolding unsigned_of
 returns-3 c = search rules
 
 returns-4 : tie.Need-returns-4
-unfolding unsignedOf
-returns-4 c = sym (ap unsignedOf c.before.number.given.1)
+unfolding unsigned_of
+returns-4 c = sym (ap unsigned_of c.before.number.given.1)
 
 returns-5 : tie.Need-returns-5
-unfolding unsignedOf
-returns-5 c = sym (ap unsignedOf c.before.before.number2.given.1 ∙ rw (ne_eqb _ _ c.if1.false))
+unfolding unsigned_of
+returns-5 c = sym (ap unsigned_of c.before.before.number2.given.1 ∙ rw (ne_eqb _ _ c.if1.false))
 
-pub as-unsigned-spec : {M : Type 1} → statement M
-as-unsigned-spec =
+pub as_unsigned_spec : {M : Type 1} → statement M
+as_unsigned_spec =
     tie.close
     (tie.spec
     enum_told

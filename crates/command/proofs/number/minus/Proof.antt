@@ -1,7 +1,7 @@
 -- `command::number::minus` meets its contract: by cases. Assumes nothing.
 use borrow.Author.Rules.{rules}
 use mathlib.Core.Path.{sym, ap}
-use Rattle.command.specs.Numbers.{minusOf}
+use Rattle.command.specs.Numbers.{minus_of}
 use Rattle.command.proofs.number.minus.Statement.{statement}
 use Rattle.command.proofs.number.minus.Tie as tie
 
@@ -21,7 +21,7 @@ returns-2 : tie.Need-returns-2
 returns-2 c = search rules
 
 returns-3 : tie.Need-returns-3
-returns-3 c = sym (ap minusOf c.before.magnitude.given.1)
+returns-3 c = sym (ap minus_of c.before.magnitude.given.1)
 
-pub minus-spec : {M : Type 1} → statement M
-minus-spec = tie.close (tie.spec enum_told enum-told-2 enum-known-magnitude returns returns-2 returns-3)
+pub minus_spec : {M : Type 1} → statement M
+minus_spec = tie.close (tie.spec enum_told enum-told-2 enum-known-magnitude returns returns-2 returns-3)

@@ -25,5 +25,5 @@ returns-2 c =
     rw (to_z_pos w32 {n = c.before.args.value} (omega arith), minus_is)
     (to_z-of_z (negated_fits c.before.args.value (omega arith)))
 
-pub negative-spec : {M : Type 1} → statement M
-negative-spec = tie.close (tie.spec returns cast-result sub-result returns-2)
+pub negative_spec : {M : Type 1} → statement M
+negative_spec = tie.close (tie.spec returns cast-result sub-result returns-2)

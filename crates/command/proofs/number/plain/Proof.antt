@@ -23,5 +23,5 @@ returns-2 c = search rules
 returns-3 : tie.Need-returns-3
 returns-3 c = sym (ap plain_of c.before.magnitude.given.1)
 
-pub plain-spec : {M : Type 1} → statement M
-plain-spec = tie.close (tie.spec enum_told enum-told-2 enum-known-magnitude returns returns-2 returns-3)
+pub plain_spec : {M : Type 1} → statement M
+plain_spec = tie.close (tie.spec enum_told enum-told-2 enum-known-magnitude returns returns-2 returns-3)

@@ -3,16 +3,16 @@ use Prim.Native.Nat.{ℕ, ◌+◌, ◌-◌, ◌*◌, ◌≤◌, ◌<◌}
 use mathlib.Core.Path.{◌≡◌, sym, ap, ◌∙◌}
 use native.Mathlib.Omega.{arith}
 use lib.ListN.{length, drop, get_or}
-use Rattle.command.specs.Numbers.{digitOf, valueFrom, fitted, tooLarge, magnitudeOf, plainEnd}
-use Rattle.command.proofs.Digits.{too_large, value-goes, value_none, value-end, magnitude-some, magnitude-empty}
+use Rattle.command.specs.Numbers.{digit_of, value_from, fitted, too_large, magnitude_of, plain_end}
+use Rattle.command.proofs.Digits.{too_large_lem, value_goes, value_none, value_end, magnitude_some, magnitude_empty}
 use borrow.Author.Rules.{rules}
-use Rattle.command.proofs.Digits.{fits-small}
+use Rattle.command.proofs.Digits.{fits_small}
 use native.Mathlib.Nat.{mul-le-mul_left, mul-le-mul_right, le_trans}
 use Rattle.command.proofs.number.read_digits.Statement.{statement}
 use Rattle.command.proofs.number.read_digits.Tie as tie
 
 abbrev invariant-loop : tie.invariant-loop
-invariant-loop text base value₀ i₀ value i = (i ≤ length text) × (value < plainEnd) × (magnitudeOf base text ≡ fitted (valueFrom base value (drop i text)))
+invariant-loop text base value₀ i₀ value i = (i ≤ length text) × (value < plain_end) × (magnitude_of base text ≡ fitted (value_from base value (drop i text)))
 
 abbrev decreases-loop : tie.decreases-loop
 decreases-loop text base value₀ i₀ value i = length text - i
@@ -20,12 +20,12 @@ decreases-loop text base value₀ i₀ value i = length text - i
 returns : tie.Need-returns invariant-loop decreases-loop
 returns c =
     let b = c.before.before in
-    sym (magnitude-empty b.args.base b.args.text.now c.if1.true)
+    sym (magnitude_empty b.args.base b.args.text.now c.if1.true)
 
 loop-holds : tie.Need-loop-init invariant-loop decreases-loop
 loop-holds c =
     let b = c.before.before in
-    (search rules, search rules, magnitude-some b.args.base b.args.text.now c.if1.false)
+    (search rules, search rules, magnitude_some b.args.base b.args.text.now c.if1.false)
 
 shared-slice-read-digit : tie.Need-shared-slice-read-digit invariant-loop decreases-loop
 shared-slice-read-digit c = search rules
@@ -39,14 +39,14 @@ returns-2 c =
     let l = c.before.before.before.before in
     let a = l.before.before.before.args in
     let t = a.text.now in
-    let d : a.base ≤ digitOf (get_or t l.loop.i 0) = rw (← c.before.digit.ensures) c.if2.true in
+    let d : a.base ≤ digit_of (get_or t l.loop.i 0) = rw (← c.before.digit.ensures) c.if2.true in
     sym (l.loop.invariant.2 ∙ ap fitted (value_none t a.base l.loop.value l.loop.i c.before.before.before.loop-test.true d))
 
 wide-requires : tie.Need-wide-requires invariant-loop decreases-loop
 wide-requires c κs = tt
 
 -- the value and the base are small, so the next value fits
-product : (v b : ℕ) → v < plainEnd → b ≤ 255 → v * b ≤ 4294967295 * 255
+product : (v b : ℕ) → v < plain_end → b ≤ 255 → v * b ≤ 4294967295 * 255
 product v b h k = le_trans (mul-le-mul_left {n = 255} v (omega arith)) (mul-le-mul_right {n = 4294967295} 255 (omega arith))
 
 mul-value : tie.Need-overflow-mul-value invariant-loop decreases-loop
@@ -68,15 +68,15 @@ add-value c =
 more : (c : tie.After-wide2 invariant-loop decreases-loop) →
     let l = c.before.before.before.before.before.before in
     let a = l.before.before.before.args in
-    magnitudeOf a.base a.text.now ≡ fitted (valueFrom a.base (l.loop.value * c.before.wide.result + c.wide2.result) (drop (l.loop.i + 1) a.text.now))
+    magnitude_of a.base a.text.now ≡ fitted (value_from a.base (l.loop.value * c.before.wide.result + c.wide2.result) (drop (l.loop.i + 1) a.text.now))
 more c =
     let l = c.before.before.before.before.before.before in
     let a = l.before.before.before.args in
     let t = a.text.now in
     let e = c.before.before.before.digit.ensures in
-    let d : digitOf (get_or t l.loop.i 0) < a.base = rw (← e) c.before.before.if2.false in
+    let d : digit_of (get_or t l.loop.i 0) < a.base = rw (← e) c.before.before.if2.false in
     l.loop.invariant.2
-    ∙ ap fitted (value-goes t a.base l.loop.value l.loop.i c.before.before.before.before.before.loop-test.true d)
+    ∙ ap fitted (value_goes t a.base l.loop.value l.loop.i c.before.before.before.before.before.loop-test.true d)
     ∙ rw (c.before.wide.ensures, c.wide2.ensures, e)
 
 add-i : tie.Need-overflow-add-i invariant-loop decreases-loop
@@ -93,9 +93,9 @@ returns-3 c =
     let r = c.before in
     let w = r.before.before in
     let a = w.before.before.before.before.before.before.before.before.before.args in
-    c.too_large.ensures
-    ∙ ap (tooLarge a.base) r.rest.ensures
-    ∙ sym (more w ∙ too_large a.base _ _ r.before.if3.true)
+    c.too_large_lem.ensures
+    ∙ ap (too_large a.base) r.rest.ensures
+    ∙ sym (more w ∙ too_large_lem a.base _ _ r.before.if3.true)
 
 loop-less : tie.Need-loop-smaller invariant-loop decreases-loop
 loop-less c = search rules
@@ -110,10 +110,10 @@ returns-4 : tie.Need-returns-4 invariant-loop decreases-loop
 returns-4 c =
     let l = c.before in
     let a = l.before.before.before.args in
-    sym (l.loop.invariant.2 ∙ ap fitted (value-end a.text.now a.base l.loop.value l.loop.i c.loop-test.false) ∙ fits-small l.loop.value l.loop.invariant.1)
+    sym (l.loop.invariant.2 ∙ ap fitted (value_end a.text.now a.base l.loop.value l.loop.i c.loop-test.false) ∙ fits_small l.loop.value l.loop.invariant.1)
 
-pub read-digits-spec : {M : Type 1} → statement M
-read-digits-spec =
+pub read_digits_spec : {M : Type 1} → statement M
+read_digits_spec =
     tie.close
     (tie.spec
     invariant-loop

@@ -2,8 +2,8 @@
 use borrow.Author.Rules.{rules}
 use mathlib.Core.Path.{◌≡◌, sym, ap, ◌∙◌}
 use lib.ListN.{get_or}
-use Rattle.command.specs.Numbers.{plain_of, minusOf, magnitudeOf}
-use Rattle.command.proofs.Digits.{number-minus, number-plain, number-zero, number-hex}
+use Rattle.command.specs.Numbers.{plain_of, minus_of, magnitude_of}
+use Rattle.command.proofs.Digits.{number_minus, number_plain, number_zero, number_hex}
 use Rattle.command.proofs.number.read_number.Statement.{statement}
 use Rattle.command.proofs.number.read_number.Tie as tie
 
@@ -23,8 +23,8 @@ returns : tie.Need-returns
 returns c =
     let p = c.before.before.before.before in
     let l = p.before.before.args.text.now in
-    c.minus.ensures ∙ ap minusOf (c.before.read-digits.ensures ∙ ap (magnitudeOf 10) c.before.before.rest.ensures)
-    ∙ sym (number-minus l (sym p.byte_at.ensures ∙ c.before.before.before.if1.true))
+    c.minus.ensures ∙ ap minus_of (c.before.read-digits.ensures ∙ ap (magnitude_of 10) c.before.before.rest.ensures)
+    ∙ sym (number_minus l (sym p.byte_at.ensures ∙ c.before.before.before.if1.true))
 
 read-digits-requires-2 : tie.Need-read-digits-requires-2
 read-digits-requires-2 c κs = search rules
@@ -37,7 +37,7 @@ returns-2 c =
     let p = c.before.before.before.before in
     let l = p.before.before.args.text.now in
     c.plain.ensures ∙ ap plain_of c.before.read-digits2.ensures
-    ∙ sym (number-plain l (λ (e : get_or l 0 0 ≡ 45). c.before.before.before.if1.false (p.byte_at.ensures ∙ e)) (λ (e : get_or l 0 0 ≡ 48). c.before.before.if2.true (p.byte_at.ensures ∙ e)))
+    ∙ sym (number_plain l (λ (e : get_or l 0 0 ≡ 45). c.before.before.before.if1.false (p.byte_at.ensures ∙ e)) (λ (e : get_or l 0 0 ≡ 48). c.before.before.if2.true (p.byte_at.ensures ∙ e)))
 
 byte-at-requires-2 : tie.Need-byte-at-requires-2
 byte-at-requires-2 c κs = search rules
@@ -54,7 +54,7 @@ returns-3 c =
     let p = q.before.before.before in
     let l = p.before.before.args.text.now in
     c.plain2.ensures ∙ ap plain_of c.before.read-digits3.ensures
-    ∙ sym (number-zero l (sym p.byte_at.ensures ∙ q.before.if2.false) (λ (e : get_or l 1 0 ≡ 120). c.before.before.if3.true (q.byte-at2.ensures ∙ e)))
+    ∙ sym (number_zero l (sym p.byte_at.ensures ∙ q.before.if2.false) (λ (e : get_or l 1 0 ≡ 120). c.before.before.if3.true (q.byte-at2.ensures ∙ e)))
 
 rest-requires-2 : tie.Need-rest-requires-2
 rest-requires-2 c κs = search rules
@@ -70,11 +70,11 @@ returns-4 c =
     let q = c.before.before.before.before in
     let p = q.before.before.before in
     let l = p.before.before.args.text.now in
-    c.plain3.ensures ∙ ap plain_of (c.before.read-digits4.ensures ∙ ap (magnitudeOf 16) c.before.before.rest2.ensures)
-    ∙ sym (number-hex l (sym p.byte_at.ensures ∙ q.before.if2.false) (sym q.byte-at2.ensures ∙ c.before.before.before.if3.false))
+    c.plain3.ensures ∙ ap plain_of (c.before.read-digits4.ensures ∙ ap (magnitude_of 16) c.before.before.rest2.ensures)
+    ∙ sym (number_hex l (sym p.byte_at.ensures ∙ q.before.if2.false) (sym q.byte-at2.ensures ∙ c.before.before.before.if3.false))
 
-pub read-number-spec : {M : Type 1} → statement M
-read-number-spec =
+pub read_number_spec : {M : Type 1} → statement M
+read_number_spec =
     tie.close
     (tie.spec
     byte-at-requires

@@ -1,6 +1,6 @@
 -- `command::number::rest` meets its contract: within the text, and past its end. Assumes nothing.
 use borrow.Author.Rules.{rules}
-use Rattle.command.proofs.Walks.{whole-rest, no-rest}
+use Rattle.command.proofs.Walks.{whole_rest, no_rest}
 use lib.ListN.{length}
 use Prim.Native.Nat.{◌-◌}
 use Rattle.command.proofs.number.rest.Statement.{statement}
@@ -16,7 +16,7 @@ part-result-end : tie.Need-slice-bounds-result-end
 part-result-end c = search rules
 
 returns : tie.Need-returns
-returns c = whole-rest c.before.before.args.text.now c.before.before.args.at
+returns c = whole_rest c.before.before.args.text.now c.before.before.args.at
 
 sub-result-2 : tie.Need-overflow-sub-result-2
 sub-result-2 c = search rules
@@ -30,10 +30,10 @@ part-result-end-2 c = search rules
 returns-2 : tie.Need-returns-2
 returns-2 c =
     let l = c.before.before.args.text.now in
-    no-rest l (length l - length l) c.before.before.args.at c.before.if1.false
+    no_rest l (length l - length l) c.before.before.args.at c.before.if1.false
 
-pub rest-spec : {M : Type 1} → statement M
-rest-spec =
+pub rest_spec : {M : Type 1} → statement M
+rest_spec =
     tie.close
     (tie.spec
     sub-result

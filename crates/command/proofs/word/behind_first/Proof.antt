@@ -1,7 +1,7 @@
 -- `command::word::behind_first` meets its contract: what `after` finds is dropped up to. Assumes nothing.
 use borrow.Author.Rules.{rules}
 use mathlib.Core.Path.{◌∙◌}
-use Rattle.command.proofs.Walks.{whole-rest}
+use Rattle.command.proofs.Walks.{whole_rest}
 use Rattle.command.proofs.word.behind_first.Statement.{statement}
 use Rattle.command.proofs.word.behind_first.Tie as tie
 
@@ -18,7 +18,7 @@ part-result-end : tie.Need-slice-bounds-result-end
 part-result-end c = search rules
 
 returns : tie.Need-returns
-returns c = whole-rest c.before.before.before.args.text.now c.before.after.result ∙ c.before.after.ensures.0
+returns c = whole_rest c.before.before.before.args.text.now c.before.after.result ∙ c.before.after.ensures.0
 
-pub behind-first-spec : {M : Type 1} → statement M
-behind-first-spec = tie.close (tie.spec after-requires sub-result part-result-start part-result-end returns)
+pub behind_first_spec : {M : Type 1} → statement M
+behind_first_spec = tie.close (tie.spec after-requires sub-result part-result-start part-result-end returns)

@@ -4,8 +4,8 @@ use Prim.Native.Nat.{ℕ, suc, ◌-◌, ◌≤◌}
 use mathlib.Core.Path.{◌≡◌, sym, ap, ◌∙◌}
 use native.Mathlib.Omega.{arith}
 use lib.ListN.{length, take, drop}
-use Rattle.command.specs.Words.{spaceAt, word_at}
-use Rattle.command.proofs.Walks.{word_next, word-here}
+use Rattle.command.specs.Words.{space_at, word_at}
+use Rattle.command.proofs.Walks.{word_next, word_here}
 use Rattle.command.proofs.word.word.Statement.{statement}
 use Rattle.command.proofs.word.word.Tie as tie
 
@@ -51,11 +51,11 @@ returns c =
     let e = c.before.end_of_lem.ensures.0 in
     let l = c.before.before.before in
     let t = l.before.before.args.text.now in
-    let n : c.before.end_of_lem.result - l.loop.start ≡ spaceAt (drop l.loop.start t) = omega arith in
-    ap (λ (m : ℕ). take m (drop l.loop.start t)) n ∙ sym (l.loop.invariant.1 ∙ word-here l.loop.left (drop l.loop.start t) (omega arith))
+    let n : c.before.end_of_lem.result - l.loop.start ≡ space_at (drop l.loop.start t) = omega arith in
+    ap (λ (m : ℕ). take m (drop l.loop.start t)) n ∙ sym (l.loop.invariant.1 ∙ word_here l.loop.left (drop l.loop.start t) (omega arith))
 
-pub word-spec : {M : Type 1} → statement M
-word-spec =
+pub word_spec : {M : Type 1} → statement M
+word_spec =
     tie.close
     (tie.spec
     invariant-loop

@@ -5,14 +5,14 @@ use mathlib.Core.Path.{◌≡◌, sym, ap, ◌∙◌}
 use lib.ListN.{length}
 use mir.Syntax.{w32}
 use mir.Val.{to_z, of_z}
-use Rattle.model.specs.Queues.{actOf}
-use Rattle.tasks.specs.View.{entriesOf, waitsOf}
+use Rattle.model.specs.Queues.{act_of}
+use Rattle.tasks.specs.View.{entries_of, waits_of}
 use Rattle.tasks.specs.Held.{Free}
-use Rattle.tasks.proofs.Rooms.{gives-by}
-use Rattle.dataqueue.specs.View.{queuesOf}
-use Rattle.dataqueue.specs.Form.{queuesAs}
-use Rattle.dataqueue.specs.Effects.{refusedWith, acted}
-use Rattle.dataqueue.proofs.Effects.{effect, is-refer, does-asked}
+use Rattle.tasks.proofs.Rooms.{gives_by}
+use Rattle.dataqueue.specs.View.{queues_of}
+use Rattle.dataqueue.specs.Form.{queues_as}
+use Rattle.dataqueue.specs.Effects.{refused_with, acted}
+use Rattle.dataqueue.proofs.Effects.{effect, is_refer_lem, does_asked}
 use Rattle.dataqueue.proofs.call.act.Statement.{statement}
 use Rattle.dataqueue.proofs.call.act.Tie as tie
 
@@ -29,10 +29,10 @@ enum-known-request : tie.Need-enum-known-request
 enum-known-request c = search rules
 
 -- the caller and the object of a call that is admitted
-free : (c : tie.After-check2) → let a = c.before.before.args in Free (entriesOf a.tasks) (waitsOf a.tasks) c.check2.given.0.0
+free : (c : tie.After-check2) → let a = c.before.before.args in Free (entries_of a.tasks) (waits_of a.tasks) c.check2.given.0.0
 free c = c.before.before.requires.2.free _ _ c.check2.given.1
 
-there : (c : tie.After-check2) → c.check2.given.0.1.0 < length (queuesOf c.before.before.args.queues)
+there : (c : tie.After-check2) → c.check2.given.0.1.0 < length (queues_of c.before.before.args.queues)
 there c = c.before.before.requires.2.there _ _ c.check2.given.1
 
 own-requires : tie.Need-own-requires
@@ -67,21 +67,21 @@ returns c =
     let a = x.before.before.args in
     let d = x.check.given.0.0 in
     let e : to_z w32 (of_z w32 d) ≡ d = search rules in
-    c.refused.ensures ∙ ap (refusedWith a.tasks a.queues) e ∙ ap (acted a.tasks a.queues (actOf a.request)) (sym x.check.given.1)
+    c.refused.ensures ∙ ap (refused_with a.tasks a.queues) e ∙ ap (acted a.tasks a.queues (act_of a.request)) (sym x.check.given.1)
 
 returns-2 : tie.Need-returns-2
 returns-2 c =
     let r = c.before.before in
     let x = r.before.before.before in
     let a = x.before.before.args in
-    does-asked a.tasks a.queues _ _ r.request.given.1 x.check2.given.1 c.own.ensures
+    does_asked a.tasks a.queues _ _ r.request.given.1 x.check2.given.1 c.own.ensures
 
 returns-3 : tie.Need-returns-3
 returns-3 c =
     let m = c.before.before in
     let x = m.before.before in
     let a = x.before.before.args in
-    does-asked a.tasks a.queues _ _ (is-refer a.request m.match2.keys2) x.check2.given.1 c.refer.ensures
+    does_asked a.tasks a.queues _ _ (is_refer_lem a.request m.match2.keys2) x.check2.given.1 c.refer.ensures
 
 returns-4 : tie.Need-returns-4
 returns-4 c =
@@ -89,10 +89,10 @@ returns-4 c =
     let x = r.before.before.before in
     let b = x.before.before in
     let a = b.args in
-    does-asked a.tasks a.queues _ _ r.request2.given.1 x.check2.given.1 (c.done.ensures ∙ gives-by queuesAs effect b.requires.0 c.before.set-vector.ensures 0)
+    does_asked a.tasks a.queues _ _ r.request2.given.1 x.check2.given.1 (c.done.ensures ∙ gives_by queues_as effect b.requires.0 c.before.set-vector.ensures 0)
 
-pub act-spec : {M : Type 1} → statement M
-act-spec =
+pub act_spec : {M : Type 1} → statement M
+act_spec =
     tie.close
     (tie.spec
     enum-known-check

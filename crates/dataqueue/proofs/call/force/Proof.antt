@@ -9,15 +9,15 @@ use mathlib.Core.Logic.{◌≢◌}
 use lib.ListN.{length}
 use borrow.Author.Tests.{lt-ltb, le-ltb}
 use Rattle.model.specs.State.{place}
-use Rattle.model.specs.Waits.{waitersIn}
-use Rattle.model.specs.Queues.{queueIn}
+use Rattle.model.specs.Waits.{waiters_in}
+use Rattle.model.specs.Queues.{queue_in}
 use Rattle.model.specs.declared.Side.TheVariants.{Receiving}
-use Rattle.tasks.specs.View.{waitsOf}
-use Rattle.tasks.proofs.Firsts.{Waits, waits, no-first}
-use Rattle.dataqueue.specs.View.{queuesOf}
+use Rattle.tasks.specs.View.{waits_of}
+use Rattle.tasks.proofs.Firsts.{Waits, waits, no_first}
+use Rattle.dataqueue.specs.View.{queues_of}
 use Rattle.dataqueue.specs.declared.state.Queue.{Queue}
-use Rattle.dataqueue.proofs.Links.{record-seen}
-use Rattle.dataqueue.proofs.Effects.{force-misused, force-wakes, force-stores, force-drops}
+use Rattle.dataqueue.proofs.Links.{record_seen}
+use Rattle.dataqueue.proofs.Effects.{force_misused_lem, force_wakes, force_stores_lem, force_drops_lem}
 use Rattle.dataqueue.proofs.call.force.Statement.{statement}
 use Rattle.dataqueue.proofs.call.force.Tie as tie
 
@@ -34,13 +34,13 @@ returns : tie.Need-returns
 returns c =
     let t = c.before in
     let b = t.before.before.before in
-    c.refused.ensures ∙ force-misused b.requires.0 b.requires.1 b.args.object b.args.word (sym (ap (λ (q : Queue). q.capacity) (record-seen b.requires.1 b.args.object b.requires.2)) ∙ t.if1.true)
+    c.refused.ensures ∙ force_misused_lem b.requires.0 b.requires.1 b.args.object b.args.word (sym (ap (λ (q : Queue). q.capacity) (record_seen b.requires.1 b.args.object b.requires.2)) ∙ t.if1.true)
 
 -- it can hold a word
-some : (c : tie.Else1) → let b = c.before.before.before in (queueIn (queuesOf b.args.t2) (suc b.args.object)).capacity ≢ 0
+some : (c : tie.Else1) → let b = c.before.before.before in (queue_in (queues_of b.args.t2) (suc b.args.object)).capacity ≢ 0
 some c e =
     let b = c.before.before.before in
-    c.if1.false (ap (λ (q : Queue). q.capacity) (record-seen b.requires.1 b.args.object b.requires.2) ∙ e)
+    c.if1.false (ap (λ (q : Queue). q.capacity) (record_seen b.requires.1 b.args.object b.requires.2) ∙ e)
 
 first-requires : tie.Need-first-requires
 first-requires c κs = search rules
@@ -49,14 +49,14 @@ enum-known-taker : tie.Need-enum-known-taker
 enum-known-taker c = search rules
 
 -- who is first to receive
-first-at : (c : tie.After-taker) → let b = c.before.before.before.before.before.before in Waits b.args.tasks false (place Receiving (suc b.args.object)) c.taker.given.0.0 c.taker.given.0.1.0
-first-at c =
+first_at : (c : tie.After-taker) → let b = c.before.before.before.before.before.before in Waits b.args.tasks false (place Receiving (suc b.args.object)) c.taker.given.0.0 c.taker.given.0.1.0
+first_at c =
     let f = c.before.before in
     let b = f.before.before.before.before in
     waits b.requires.0 false (place Receiving (suc b.args.object)) _ _ (sym f.first.ensures ∙ c.taker.given.1)
 
 wake-requires : tie.Need-wake-requires
-wake-requires c κs = (c.before.before.before.before.before.before.before.requires.0, (first-at c.before).low)
+wake-requires c κs = (c.before.before.before.before.before.before.before.requires.0, (first_at c.before).low)
 
 ended-requires : tie.Need-ended-requires
 ended-requires c κs = search rules
@@ -64,22 +64,22 @@ ended-requires c κs = search rules
 enum_told : tie.Need-enum-told
 enum_told c = search rules
 
-nobody : (c : tie.After-enum-told) → let b = c.before.before.before.before.before.before in waitersIn (waitsOf b.args.tasks) (place Receiving (suc b.args.object)) ≡ []
+nobody : (c : tie.After-enum-told) → let b = c.before.before.before.before.before.before in waiters_in (waits_of b.args.tasks) (place Receiving (suc b.args.object)) ≡ []
 nobody c =
     let f = c.before.before in
     let b = f.before.before.before.before in
-    no-first (waitersIn (waitsOf b.args.tasks) (place Receiving (suc b.args.object))) f.first.result f.first.ensures c.before.match.keys2
+    no_first (waiters_in (waits_of b.args.tasks) (place Receiving (suc b.args.object))) f.first.result f.first.ensures c.before.match.keys2
 
 -- whether there is room for it
-roomy : (c : tie.Then2) → let b = c.before.before.before.before.before.before.before.before in let q = queueIn (queuesOf b.args.t2) (suc b.args.object) in length q.buffer < q.capacity
+roomy : (c : tie.Then2) → let b = c.before.before.before.before.before.before.before.before in let q = queue_in (queues_of b.args.t2) (suc b.args.object) in length q.buffer < q.capacity
 roomy c =
     let b = c.before.before.before.before.before.before.before.before in
-    subst (λ (q : Queue). q.len < q.capacity) (record-seen b.requires.1 b.args.object b.requires.2) c.if2.true
+    subst (λ (q : Queue). q.len < q.capacity) (record_seen b.requires.1 b.args.object b.requires.2) c.if2.true
 
-full : (c : tie.Else2) → let b = c.before.before.before.before.before.before.before.before in let q = queueIn (queuesOf b.args.t2) (suc b.args.object) in q.capacity ≤ length q.buffer
+full : (c : tie.Else2) → let b = c.before.before.before.before.before.before.before.before in let q = queue_in (queues_of b.args.t2) (suc b.args.object) in q.capacity ≤ length q.buffer
 full c =
     let b = c.before.before.before.before.before.before.before.before in
-    subst (λ (q : Queue). q.capacity ≤ q.len) (record-seen b.requires.1 b.args.object b.requires.2) c.if2.false
+    subst (λ (q : Queue). q.capacity ≤ q.len) (record_seen b.requires.1 b.args.object b.requires.2) c.if2.false
 
 push-requires : tie.Need-push-requires
 push-requires c κs =
@@ -96,14 +96,14 @@ returns-2 c =
     let s = h.before.before.before.before in
     let b = s.before.before.before in
     let a = b.args in
-    c.done.ensures ∙ force-stores b.requires.0 b.requires.1 a.object a.word (some s) (nobody h.before) (lt-ltb _ _ (roomy u.before)) _ u.push.ensures
+    c.done.ensures ∙ force_stores_lem b.requires.0 b.requires.1 a.object a.word (some s) (nobody h.before) (lt-ltb _ _ (roomy u.before)) _ u.push.ensures
 
 -- what is full and can hold a word holds one
 refill-requires : tie.Need-refill-requires
 refill-requires c κs =
     let s = c.before.before.before.before.before in
     let b = s.before.before.before in
-    let q = queueIn (queuesOf b.args.t2) (suc b.args.object) in
+    let q = queue_in (queues_of b.args.t2) (suc b.args.object) in
     let l : q.capacity ≤ length q.buffer = full c in
     let n : q.capacity ≢ 0 = some s in
     (b.requires.1, b.requires.2, omega (arith, l, n))
@@ -118,7 +118,7 @@ returns-3 c =
     let s = k.before.before.before in
     let b = s.before.before.before in
     let a = b.args in
-    c.ended.ensures ∙ force-wakes b.requires.0 b.requires.1 a.object a.word (some s) (first-at k) _ w.wake.ensures
+    c.ended.ensures ∙ force_wakes b.requires.0 b.requires.1 a.object a.word (some s) (first_at k) _ w.wake.ensures
 
 returns-4 : tie.Need-returns-4
 returns-4 c =
@@ -127,10 +127,10 @@ returns-4 c =
     let s = h.before.before.before.before in
     let b = s.before.before.before in
     let a = b.args in
-    c.done2.ensures ∙ force-drops b.requires.0 b.requires.1 a.object a.word (some s) (nobody h.before) (le-ltb _ _ (full u.before)) _ u.refill.ensures
+    c.done2.ensures ∙ force_drops_lem b.requires.0 b.requires.1 a.object a.word (some s) (nobody h.before) (le-ltb _ _ (full u.before)) _ u.refill.ensures
 
-pub force-spec : {M : Type 1} → statement M
-force-spec =
+pub force_spec : {M : Type 1} → statement M
+force_spec =
     tie.close
     (tie.spec
     mul-queue

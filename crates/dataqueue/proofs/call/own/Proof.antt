@@ -1,7 +1,7 @@
 -- `call::own` meets its contract. Assumes nothing.
 use borrow.Author.Rules.{rules}
 use mathlib.Core.Path.{}
-use Rattle.dataqueue.proofs.Effects.{does-own}
+use Rattle.dataqueue.proofs.Effects.{does_own}
 use Rattle.dataqueue.proofs.call.own.Statement.{statement}
 use Rattle.dataqueue.proofs.call.own.Tie as tie
 
@@ -27,22 +27,22 @@ returns : tie.Need-returns
 returns c =
     let m = c.before.before in
     let a = m.before.before.args in
-    does-own a.tasks a.queues a.task a.object m.call.given.1 c.send.ensures
+    does_own a.tasks a.queues a.task a.object m.call.given.1 c.send.ensures
 
 returns-2 : tie.Need-returns-2
 returns-2 c =
     let m = c.before.before in
     let a = m.before.before.args in
-    does-own a.tasks a.queues a.task a.object m.call2.given.1 c.receive.ensures
+    does_own a.tasks a.queues a.task a.object m.call2.given.1 c.receive.ensures
 
 returns-3 : tie.Need-returns-3
 returns-3 c =
     let m = c.before.before in
     let a = m.before.before.args in
-    does-own a.tasks a.queues a.task a.object m.call3.given.1 c.force.ensures
+    does_own a.tasks a.queues a.task a.object m.call3.given.1 c.force.ensures
 
-pub own-spec : {M : Type 1} → statement M
-own-spec =
+pub own_spec : {M : Type 1} → statement M
+own_spec =
     tie.close
     (tie.spec
     enum-known-call

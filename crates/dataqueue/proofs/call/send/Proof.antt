@@ -7,13 +7,13 @@ use mathlib.Core.List.{[]}
 use lib.ListN.{length}
 use borrow.Author.Tests.{ltb-true}
 use Rattle.model.specs.State.{place}
-use Rattle.model.specs.Waits.{waitersIn}
-use Rattle.model.specs.Queues.{queueIn}
+use Rattle.model.specs.Waits.{waiters_in}
+use Rattle.model.specs.Queues.{queue_in}
 use Rattle.model.specs.declared.Side.TheVariants.{Receiving}
-use Rattle.tasks.specs.View.{waitsOf}
-use Rattle.tasks.proofs.Firsts.{Waits, waits, no-first}
-use Rattle.dataqueue.specs.View.{queuesOf}
-use Rattle.dataqueue.proofs.Effects.{send-wakes, send-stores, send-waits}
+use Rattle.tasks.specs.View.{waits_of}
+use Rattle.tasks.proofs.Firsts.{Waits, waits, no_first}
+use Rattle.dataqueue.specs.View.{queues_of}
+use Rattle.dataqueue.proofs.Effects.{send_wakes, send_stores_lem, send_waits_lem}
 use Rattle.dataqueue.proofs.call.send.Statement.{statement}
 use Rattle.dataqueue.proofs.call.send.Tie as tie
 
@@ -24,14 +24,14 @@ enum-known-receiver : tie.Need-enum-known-receiver
 enum-known-receiver c = search rules
 
 -- who is first to receive
-first-at : (c : tie.After-receiver) → let b = c.before.before.before in Waits b.args.tasks false (place Receiving (suc b.args.object)) c.receiver.given.0.0 c.receiver.given.0.1.0
-first-at c =
+first_at : (c : tie.After-receiver) → let b = c.before.before.before in Waits b.args.tasks false (place Receiving (suc b.args.object)) c.receiver.given.0.0 c.receiver.given.0.1.0
+first_at c =
     let f = c.before.before in
     let b = f.before in
     waits b.requires.0 false (place Receiving (suc b.args.object)) _ _ (sym f.first.ensures ∙ c.receiver.given.1)
 
 wake-requires : tie.Need-wake-requires
-wake-requires c κs = (c.before.before.before.before.requires.0, (first-at c.before).low)
+wake-requires c κs = (c.before.before.before.before.requires.0, (first_at c.before).low)
 
 ended-requires : tie.Need-ended-requires
 ended-requires c κs = search rules
@@ -39,11 +39,11 @@ ended-requires c κs = search rules
 enum_told : tie.Need-enum-told
 enum_told c = search rules
 
-nobody : (c : tie.After-enum-told) → let b = c.before.before.before in waitersIn (waitsOf b.args.tasks) (place Receiving (suc b.args.object)) ≡ []
+nobody : (c : tie.After-enum-told) → let b = c.before.before.before in waiters_in (waits_of b.args.tasks) (place Receiving (suc b.args.object)) ≡ []
 nobody c =
     let f = c.before.before in
     let b = f.before in
-    no-first (waitersIn (waitsOf b.args.tasks) (place Receiving (suc b.args.object))) f.first.result f.first.ensures c.before.match.keys2
+    no_first (waiters_in (waits_of b.args.tasks) (place Receiving (suc b.args.object))) f.first.result f.first.ensures c.before.match.keys2
 
 has-room-requires : tie.Need-has-room-requires
 has-room-requires c κs = search rules
@@ -51,7 +51,7 @@ has-room-requires c κs = search rules
 push-requires : tie.Need-push-requires
 push-requires c κs =
     let b = c.before.before.before.before.before in
-    let q = queueIn (queuesOf b.args.queues) (suc b.args.object) in
+    let q = queue_in (queues_of b.args.queues) (suc b.args.object) in
     (b.requires.1, b.requires.3, ltb-true (length q.buffer) q.capacity (sym c.before.has_room.ensures ∙ c.if1.true))
 
 done-requires : tie.Need-done-requires
@@ -71,7 +71,7 @@ returns c =
     let w = c.before in
     let b = w.before.before.before.before.before in
     let a = b.args in
-    c.ended.ensures ∙ send-wakes b.requires.0 b.requires.1 a.object a.task a.patience a.word (first-at w.before.before) _ w.wake.ensures
+    c.ended.ensures ∙ send_wakes b.requires.0 b.requires.1 a.object a.task a.patience a.word (first_at w.before.before) _ w.wake.ensures
 
 returns-2 : tie.Need-returns-2
 returns-2 c =
@@ -79,7 +79,7 @@ returns-2 c =
     let h = u.before.before in
     let b = h.before.before.before.before in
     let a = b.args in
-    c.done.ensures ∙ send-stores b.requires.0 b.requires.1 a.object a.task a.patience a.word (nobody h.before) (sym h.has_room.ensures ∙ u.before.if1.true) _ u.push.ensures
+    c.done.ensures ∙ send_stores_lem b.requires.0 b.requires.1 a.object a.task a.patience a.word (nobody h.before) (sym h.has_room.ensures ∙ u.before.if1.true) _ u.push.ensures
 
 returns-3 : tie.Need-returns-3
 returns-3 c =
@@ -87,10 +87,10 @@ returns-3 c =
     let h = o.before.before in
     let b = h.before.before.before.before in
     let a = b.args in
-    c.ended2.ensures ∙ send-waits b.requires.0 b.requires.1 a.object a.task a.patience a.word (nobody h.before) (sym h.has_room.ensures ∙ o.before.if1.false) _ o.or-wait.ensures
+    c.ended2.ensures ∙ send_waits_lem b.requires.0 b.requires.1 a.object a.task a.patience a.word (nobody h.before) (sym h.has_room.ensures ∙ o.before.if1.false) _ o.or-wait.ensures
 
-pub send-spec : {M : Type 1} → statement M
-send-spec =
+pub send_spec : {M : Type 1} → statement M
+send_spec =
     tie.close
     (tie.spec
     first-requires

@@ -2,7 +2,7 @@
 use borrow.Author.Rules.{rules}
 use native.Mathlib.Omega.{arith}
 use Rattle.model.specs.Images.{image}
-use Rattle.model.proofs.Images.{lies-tells}
+use Rattle.model.proofs.Images.{lies_tells}
 use Rattle.images.proofs.Images.{cut_at}
 use Prim.Native.Nat.{◌+◌, ◌≤◌}
 use lib.ListN.{length}
@@ -10,7 +10,7 @@ use Rattle.images.proofs.image.cut.Statement.{statement}
 use Rattle.images.proofs.image.cut.Tie as tie
 
 lies : (c : tie.Start) → (c.args.from ≤ c.args.base) × (c.args.base + c.args.size ≤ c.args.from + length c.args.bytes.now)
-lies c = (lies-tells (image c.args.from c.args.bytes.now) c.args.base c.args.size).yes c.requires
+lies c = (lies_tells (image c.args.from c.args.bytes.now) c.args.base c.args.size).yes c.requires
 
 sub-start : tie.Need-overflow-sub-start
 sub-start c = omega (arith, lies c)

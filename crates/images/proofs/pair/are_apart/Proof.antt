@@ -18,6 +18,6 @@ ends-by-requires-2 c κs = search rules
 returns : tie.Need-returns
 returns c = (cc)
 
-pub are-apart-spec : {M : Type 1} → statement M
-are-apart-spec =
+pub are_apart_spec : {M : Type 1} → statement M
+are_apart_spec =
     tie.close (tie.spec cast-ends-by ends-by-requires cast-ends-by-2 ends-by-requires-2 returns)

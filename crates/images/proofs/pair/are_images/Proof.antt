@@ -15,6 +15,6 @@ are-apart-requires c κs = search rules
 returns : tie.Need-returns
 returns c = (cc)
 
-pub are-images-spec : {M : Type 1} → statement M
-are-images-spec =
+pub are_images_spec : {M : Type 1} → statement M
+are_images_spec =
     tie.close (tie.spec ends-by-requires ends-by-requires-2 are-apart-requires returns)

@@ -9,5 +9,5 @@ returns c = rw (eq-eqb c.before.args.attribute 0 c.if1.true)
 returns-2 : tie.Need-returns-2
 returns-2 c = rw (ne_eqb c.before.args.attribute 0 c.if1.false)
 
-pub is-order-spec : {M : Type 1} → statement M
-is-order-spec = tie.close (tie.spec returns returns-2)
+pub is_order_spec : {M : Type 1} → statement M
+is_order_spec = tie.close (tie.spec returns returns-2)

@@ -7,8 +7,8 @@ use borrow.Author.Rules.{rules}
 use native.Mathlib.Omega.{arith}
 use Rattle.regions.specs.declared.search.Found.TheVariants.{At, Nothing}
 use Rattle.regions.specs.Search.{lookup}
-use Rattle.regions.proofs.Searches.{no-region}
-use Rattle.regions.proofs.Halving.{Left, keep_all, half-of-these, half-of-all, rounds, Halved, begin, some_left, twice-left, halve, decides}
+use Rattle.regions.proofs.Searches.{no_region_lem}
+use Rattle.regions.proofs.Halving.{Left, keep_all, half_of_these, half_of_all, rounds, Halved, begin, some_left, twice_left, halve, decides}
 use Rattle.regions.proofs.search.find.Statement.{statement}
 use Rattle.regions.proofs.search.find.Tie as tie
 
@@ -21,7 +21,7 @@ decreases-loop bases sizes count address first₀ half₀ round₀ first half ro
 returns : tie.Need-returns invariant-loop decreases-loop
 returns c =
     let a = c.before.before.before.args in
-    sym (no-region a.bases.now a.sizes.now a.address a.count 0 c.if1.true)
+    sym (no_region_lem a.bases.now a.sizes.now a.address a.count 0 c.if1.true)
 
 loop-holds : tie.Need-loop-init invariant-loop decreases-loop
 loop-holds c =
@@ -37,7 +37,7 @@ add-half-from c = let p = c.before.before in let f = p.loop.invariant.few in let
 half-from-requires : tie.Need-half-from-requires invariant-loop decreases-loop
 half-from-requires c κs =
     let p = c.before.before in
-    let v = twice-left p.loop.invariant (omega (arith, c.before.loop-test.true)) in
+    let v = twice_left p.loop.invariant (omega (arith, c.before.loop-test.true)) in
     let w = v.within (omega arith) in
     let n = p.before.before.before.before.requires.0 in
     omega arith
@@ -66,13 +66,13 @@ loop-again c =
     let i = p.loop in
     let l : i.round < rounds = omega (arith, c.before.loop-test.true) in
     let o = some_left i.invariant l in
-    let v = twice-left i.invariant l in
+    let v = twice_left i.invariant l in
     let kept : ℕ → Type 0 = λ f. Left a.bases.now a.sizes.now a.count a.address f i.half in
     halve i.invariant l c.if2.first
     (⊎_elim
-    (λ w. subst kept (sym (w.2 ∙ w.1.ensures)) (half-of-these v o s.requires.2 w.0.taken))
+    (λ w. subst kept (sym (w.2 ∙ w.1.ensures)) (half_of_these v o s.requires.2 w.0.taken))
     (⊎_elim
-    (λ w. subst kept (sym (w.3 ∙ w.2.ensures)) (half-of-all v o s.requires.2 w.0.left w.1.taken))
+    (λ w. subst kept (sym (w.3 ∙ w.2.ensures)) (half_of_all v o s.requires.2 w.0.left w.1.taken))
     (λ w. subst kept (sym w.2) (keep_all v o w.1.left)))
     c.if2.branch)
 

@@ -24,5 +24,5 @@ returns-2 c =
     let a = c.before.before.args in
     sym (ap (λ (b : Bool). cond b a.middle a.first) (lt-leb (get_or a.bases.now a.middle 0) a.address (omega (arith, c.if1.false))))
 
-pub half-from-spec : {M : Type 1} → statement M
-half-from-spec = tie.close (tie.spec mul-if1 shared-slice-read-if1 returns returns-2)
+pub half_from_spec : {M : Type 1} → statement M
+half_from_spec = tie.close (tie.spec mul-if1 shared-slice-read-if1 returns returns-2)

@@ -2,7 +2,7 @@
 use borrow.Author.Rules.{rules}
 use mathlib.Core.Path.{◌∙◌}
 use mathlib.Core.Bool.{◌&&◌}
-use Rattle.regions.proofs.Checks.{request-ok}
+use Rattle.regions.proofs.Checks.{request_ok}
 use Rattle.regions.proofs.verdict.is_request.Statement.{statement}
 use Rattle.regions.proofs.verdict.is_request.Tie as tie
 
@@ -17,7 +17,7 @@ returns c =
     let a = c.before.before.args in
     let w = c.before.is-wish.ensures in
     let z = c.is-area.ensures in
-    (λ i. w i && z i) ∙ request-ok a.base a.size a.wishes
+    (λ i. w i && z i) ∙ request_ok a.base a.size a.wishes
 
-pub is-request-spec : {M : Type 1} → statement M
-is-request-spec = tie.close (tie.spec is-wish-requires is-area-requires returns)
+pub is_request_spec : {M : Type 1} → statement M
+is_request_spec = tie.close (tie.spec is-wish-requires is-area-requires returns)

@@ -1,7 +1,7 @@
 -- `report::line::put_waiters` is safe and ends. The measure is the count of tasks that are not yet asked for. Assumes nothing.
 use borrow.Author.Rules.{rules}
 use Prim.Native.Nat.{◌-◌}
-use Rattle.itron.specs.Limits.{maxTasks}
+use Rattle.itron.specs.Limits.{max_tasks}
 use Rattle.report.proofs.line.put_waiters.Statement.{statement}
 use Rattle.report.proofs.line.put_waiters.Tie as tie
 
@@ -9,7 +9,7 @@ abbrev invariant-loop : tie.invariant-loop
 invariant-loop out₀ at state side number end₀ k₀ out end k = Unit {0}
 
 abbrev decreases-loop : tie.decreases-loop
-decreases-loop out₀ at state side number end₀ k₀ out end k = maxTasks - k
+decreases-loop out₀ at state side number end₀ k₀ out end k = max_tasks - k
 
 loop-holds : tie.Need-loop-init invariant-loop decreases-loop
 loop-holds c = search rules
@@ -38,8 +38,8 @@ loop-again c = search rules
 returns-2 : tie.Need-returns-2 invariant-loop decreases-loop
 returns-2 c = search rules
 
-pub put-waiters-spec : {M : Type 1} → statement M
-put-waiters-spec =
+pub put_waiters_spec : {M : Type 1} → statement M
+put_waiters_spec =
     tie.close
     (tie.spec
     invariant-loop

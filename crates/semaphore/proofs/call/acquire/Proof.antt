@@ -3,9 +3,9 @@ use borrow.Author.Rules.{rules}
 use native.Mathlib.Omega.{arith}
 use mathlib.Core.Path.{ap, ◌∙◌}
 use Rattle.semaphore.specs.declared.state.Semaphores.{Semaphores}
-use Rattle.semaphore.specs.Effects.{doneWith}
-use Rattle.semaphore.proofs.Back.{count-seen}
-use Rattle.semaphore.proofs.Effects.{acquire-takes, acquire-waits}
+use Rattle.semaphore.specs.Effects.{done_with}
+use Rattle.semaphore.proofs.Back.{count_seen}
+use Rattle.semaphore.proofs.Effects.{acquire_takes, acquire_waits_lem}
 use Rattle.semaphore.proofs.call.acquire.Statement.{statement}
 use Rattle.semaphore.proofs.call.acquire.Tie as tie
 
@@ -27,13 +27,13 @@ returns c =
     let g = t.before.before in
     let b = g.before in
     let a = b.args in
-    c.done.ensures ∙ ap (λ (s : Semaphores). doneWith a.tasks s 0) c.before.put.ensures
-    ∙ acquire-takes b.requires.0 b.requires.1 a.object _ g.get.ensures a.task a.patience t.if1.true
+    c.done.ensures ∙ ap (λ (s : Semaphores). done_with a.tasks s 0) c.before.put.ensures
+    ∙ acquire_takes b.requires.0 b.requires.1 a.object _ g.get.ensures a.task a.patience t.if1.true
 
 cast-t10 : tie.Need-overflow-cast-t10
 cast-t10 c =
     let b = c.before.before.before in
-    let n = count-seen b.requires.1 in
+    let n = count_seen b.requires.1 in
     let f = b.requires.1.few in
     let l = b.requires.3 in
     omega arith
@@ -51,7 +51,7 @@ returns-2 c =
     let g = t.before.before in
     let b = g.before in
     let a = b.args in
-    c.ended.ensures ∙ acquire-waits b.requires.0 b.requires.1 a.object _ g.get.ensures a.task a.patience t.if1.false _ o.or-wait.ensures
+    c.ended.ensures ∙ acquire_waits_lem b.requires.0 b.requires.1 a.object _ g.get.ensures a.task a.patience t.if1.false _ o.or-wait.ensures
 
 pub acquire_spec : {M : Type 1} → statement M
 acquire_spec =

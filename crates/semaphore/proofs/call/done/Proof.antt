@@ -13,5 +13,5 @@ plain-requires c κs = search rules
 returns : tie.Need-returns
 returns c = let a = c.before.args in ap (λ (r : Reply). effect r no_info a.tasks a.semaphores) c.plain.ensures
 
-pub done-spec : {M : Type 1} → statement M
-done-spec = tie.close (tie.spec plain-requires returns)
+pub done_spec : {M : Type 1} → statement M
+done_spec = tie.close (tie.spec plain-requires returns)

@@ -1,7 +1,7 @@
 -- `call::own` meets its contract. Assumes nothing.
 use borrow.Author.Rules.{rules}
 use mathlib.Core.Path.{}
-use Rattle.semaphore.proofs.Effects.{is-signal, does-own}
+use Rattle.semaphore.proofs.Effects.{is_signal, does_own}
 use Rattle.semaphore.proofs.call.own.Statement.{statement}
 use Rattle.semaphore.proofs.call.own.Tie as tie
 
@@ -21,15 +21,15 @@ returns : tie.Need-returns
 returns c =
     let m = c.before.before in
     let a = m.before.args in
-    does-own a.tasks a.semaphores a.task a.object (is-signal a.call m.match.keys1) c.signal.ensures
+    does_own a.tasks a.semaphores a.task a.object (is_signal a.call m.match.keys1) c.signal.ensures
 
 returns-2 : tie.Need-returns-2
 returns-2 c =
     let m = c.before.before in
     let a = m.before.before.args in
-    does-own a.tasks a.semaphores a.task a.object m.call.given.1 c.acquire.ensures
+    does_own a.tasks a.semaphores a.task a.object m.call.given.1 c.acquire.ensures
 
-pub own-spec : {M : Type 1} → statement M
-own-spec =
+pub own_spec : {M : Type 1} → statement M
+own_spec =
     tie.close
     (tie.spec enum_told signal-requires enum-known-call acquire-requires returns returns-2)

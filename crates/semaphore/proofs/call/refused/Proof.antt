@@ -4,7 +4,7 @@ use mathlib.Core.Path.{ap, ◌∙◌}
 use mir.Facts.{to_z-of_z}
 use Rattle.model.specs.Answers.{no_info}
 use Rattle.model.specs.declared.Reply.{Reply}
-use Rattle.semaphore.specs.Effects.{refusedWith}
+use Rattle.semaphore.specs.Effects.{refused_with}
 use Rattle.semaphore.proofs.Effects.{effect}
 use Rattle.semaphore.proofs.call.refused.Statement.{statement}
 use Rattle.semaphore.proofs.call.refused.Tie as tie
@@ -16,7 +16,7 @@ returns : tie.Need-returns
 returns c =
     let b = c.before in
     let a = b.args in
-    ap (λ (r : Reply). effect r no_info a.tasks a.semaphores) c.plain.ensures ∙ ap (refusedWith a.tasks a.semaphores) (to_z-of_z b.ranges.code)
+    ap (λ (r : Reply). effect r no_info a.tasks a.semaphores) c.plain.ensures ∙ ap (refused_with a.tasks a.semaphores) (to_z-of_z b.ranges.code)
 
-pub refused-spec : {M : Type 1} → statement M
-refused-spec = tie.close (tie.spec plain-requires returns)
+pub refused_spec : {M : Type 1} → statement M
+refused_spec = tie.close (tie.spec plain-requires returns)

@@ -37,8 +37,8 @@ loop-again c = search rules
 returns : tie.Need-returns invariant-loop decreases-loop
 returns c = search rules
 
-pub put-objects-spec : {M : Type 1} → statement M
-put-objects-spec =
+pub put_objects_spec : {M : Type 1} → statement M
+put_objects_spec =
     tie.close
     (tie.spec
     invariant-loop

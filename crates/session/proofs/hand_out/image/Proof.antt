@@ -7,14 +7,14 @@ use Rattle.session.proofs.hand_out.image.Statement.{statement}
 use Rattle.session.proofs.hand_out.image.Tie as tie
 
 -- the bytes of an image
-abbrev imageSize : ℕ
-imageSize = 4096
+abbrev image_size : ℕ
+image_size = 4096
 
 abbrev invariant-loop : tie.invariant-loop
-invariant-loop falls bytes₀ i₀ bytes i = (i ≤ imageSize) × (length bytes ≡ imageSize)
+invariant-loop falls bytes₀ i₀ bytes i = (i ≤ image_size) × (length bytes ≡ image_size)
 
 abbrev decreases-loop : tie.decreases-loop
-decreases-loop falls bytes₀ i₀ bytes i = imageSize - i
+decreases-loop falls bytes₀ i₀ bytes i = image_size - i
 
 loop-holds : tie.Need-loop-init invariant-loop decreases-loop
 loop-holds c = search rules
@@ -37,8 +37,8 @@ loop-again c = search rules
 returns : tie.Need-returns invariant-loop decreases-loop
 returns c = search rules
 
-pub image-spec : {M : Type 1} → statement M
-image-spec =
+pub image_spec : {M : Type 1} → statement M
+image_spec =
     tie.close
     (tie.spec
     invariant-loop

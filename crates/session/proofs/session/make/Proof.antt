@@ -4,7 +4,7 @@ use mathlib.Core.Path.{◌≡◌, sym}
 use native.Mathlib.Omega.{arith}
 use lib.ListN.{length}
 use lib.Seq.{length-take-le}
-use Rattle.command.specs.Lines.{lineSize}
+use Rattle.command.specs.Lines.{line_size}
 use Rattle.session.proofs.session.make.Statement.{statement}
 use Rattle.session.proofs.session.make.Tie as tie
 
@@ -17,17 +17,17 @@ enum_told c = search rules
 returns : tie.Need-returns
 returns c = search rules
 
-array-share-prefix-bytes : tie.Need-array-share-prefix-bytes
-array-share-prefix-bytes c =
+array_share_prefix_bytes : tie.Need-array-share-prefix-bytes
+array_share_prefix_bytes c =
     let r = c.before.before.before.before.requested in
-    let l : length r.result.echo.bytes ≡ lineSize = search rules in
+    let l : length r.result.echo.bytes ≡ line_size = search rules in
     let e = r.ensures in
     omega arith
 
 slice-aggregate-obey : tie.Need-slice-aggregate-obey
 slice-aggregate-obey c =
     let r = c.before.before.before.before.before.requested in
-    let l : length r.result.echo.bytes ≡ lineSize = search rules in
+    let l : length r.result.echo.bytes ≡ line_size = search rules in
     let e = r.ensures in
     sym (length-take-le r.result.echo.count r.result.echo.bytes (omega arith))
 
@@ -44,7 +44,7 @@ make_spec =
     requested-requires
     enum_told
     returns
-    array-share-prefix-bytes
+    array_share_prefix_bytes
     slice-aggregate-obey
     obey-requires
     returns-2)

@@ -1,6 +1,6 @@
 -- `wait::is_same` meets its contract. Assumes nothing.
 use borrow.Author.Rules.{rules}
-use Rattle.tasks.proofs.Places.{same-side, other-side}
+use Rattle.tasks.proofs.Places.{same_side_lem, other_side}
 use mathlib.Core.Path.{sym, ◌∙◌}
 use Rattle.tasks.proofs.wait.is_same.Statement.{statement}
 use Rattle.tasks.proofs.wait.is_same.Tie as tie
@@ -16,14 +16,14 @@ returns c =
     let y = c.before in
     let x = y.before in
     let a = x.before.args in
-    same-side a.side a.other a.object a.index (sym x.side-number.ensures ∙ c.if1.true ∙ y.side-number2.ensures)
+    same_side_lem a.side a.other a.object a.index (sym x.side-number.ensures ∙ c.if1.true ∙ y.side-number2.ensures)
 
 returns-2 : tie.Need-returns-2
 returns-2 c =
     let y = c.before in
     let x = y.before in
     let a = x.before.args in
-    other-side a.side a.other a.object a.index (λ e. c.if1.false (x.side-number.ensures ∙ e ∙ sym y.side-number2.ensures))
+    other_side a.side a.other a.object a.index (λ e. c.if1.false (x.side-number.ensures ∙ e ∙ sym y.side-number2.ensures))
 
-pub is-same-spec : {M : Type 1} → statement M
-is-same-spec = tie.close (tie.spec side-number-requires side-number-requires-2 returns returns-2)
+pub is_same_spec : {M : Type 1} → statement M
+is_same_spec = tie.close (tie.spec side-number-requires side-number-requires-2 returns returns-2)

@@ -38,8 +38,8 @@ returns-3 c = let x = c.before.before in let a = x.before.before.args in c.is-sa
 returns-4 : tie.Need-returns-4
 returns-4 c = let x = c.before.before in let a = x.before.before.args in c.is-same3.ensures ∙ ap (placed a.side a.object) (sym x.wait3.given.1)
 
-pub waits-at-spec : {M : Type 1} → statement M
-waits-at-spec =
+pub waits_at_spec : {M : Type 1} → statement M
+waits_at_spec =
     tie.close
     (tie.spec
     enum_told

@@ -13,5 +13,5 @@ returns c = search rules
 returns-2 : tie.Need-returns-2
 returns-2 c = no_word c.before.args.wait c.match.keys2
 
-pub word-of-spec : {M : Type 1} → statement M
-word-of-spec = tie.close (tie.spec enum-known-wait returns returns-2)
+pub word_of_spec : {M : Type 1} → statement M
+word_of_spec = tie.close (tie.spec enum-known-wait returns returns-2)

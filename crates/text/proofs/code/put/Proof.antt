@@ -5,15 +5,15 @@ use native.Mathlib.Omega.{arith}
 use mathlib.Core.Path.{◌≡◌, sym}
 use lib.ListN.{length}
 use lib.Seq.{length-take-le}
-use Rattle.text.specs.Names.{longestName}
+use Rattle.text.specs.Names.{longest_name}
 use Rattle.text.proofs.code.put.Statement.{statement}
 use Rattle.text.proofs.code.put.Tie as tie
 
 abbrev invariant-loop : tie.invariant-loop
-invariant-loop out₀ name i₀ out i = (i ≤ longestName) × (length out ≡ longestName)
+invariant-loop out₀ name i₀ out i = (i ≤ longest_name) × (length out ≡ longest_name)
 
 abbrev decreases-loop : tie.decreases-loop
-decreases-loop out₀ name i₀ out i = longestName - i
+decreases-loop out₀ name i₀ out i = longest_name - i
 
 loop-holds : tie.Need-loop-init invariant-loop decreases-loop
 loop-holds c = search rules

@@ -34,8 +34,8 @@ prcv-dtq-requires c κs = search rules
 returns : tie.Need-returns invariant-loop decreases-loop
 returns c = search rules
 
-pub timing-force-drop-spec : {M : Type 1} → statement M
-timing-force-drop-spec =
+pub timing_force_drop_spec : {M : Type 1} → statement M
+timing_force_drop_spec =
     tie.close
     (tie.spec
     invariant-loop

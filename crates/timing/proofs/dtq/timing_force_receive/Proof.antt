@@ -37,8 +37,8 @@ loop-again c = search rules
 returns : tie.Need-returns invariant-loop decreases-loop
 returns c = search rules
 
-pub timing-force-receive-spec : {M : Type 1} → statement M
-timing-force-receive-spec =
+pub timing_force_receive_spec : {M : Type 1} → statement M
+timing_force_receive_spec =
     tie.close
     (tie.spec
     invariant-loop

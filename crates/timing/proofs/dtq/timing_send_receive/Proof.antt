@@ -37,8 +37,8 @@ loop-again c = search rules
 returns : tie.Need-returns invariant-loop decreases-loop
 returns c = search rules
 
-pub timing-send-receive-spec : {M : Type 1} → statement M
-timing-send-receive-spec =
+pub timing_send_receive_spec : {M : Type 1} → statement M
+timing_send_receive_spec =
     tie.close
     (tie.spec
     invariant-loop

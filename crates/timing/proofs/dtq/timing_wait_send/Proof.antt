@@ -37,8 +37,8 @@ loop-again c = search rules
 returns : tie.Need-returns invariant-loop decreases-loop
 returns c = search rules
 
-pub timing-wait-send-spec : {M : Type 1} → statement M
-timing-wait-send-spec =
+pub timing_wait_send_spec : {M : Type 1} → statement M
+timing_wait_send_spec =
     tie.close
     (tie.spec
     invariant-loop

@@ -34,8 +34,8 @@ loop-again c = search rules
 returns : tie.Need-returns invariant-loop decreases-loop
 returns c = search rules
 
-pub forced-spec : {M : Type 1} → statement M
-forced-spec =
+pub forced_spec : {M : Type 1} → statement M
+forced_spec =
     tie.close
     (tie.spec
     invariant-loop

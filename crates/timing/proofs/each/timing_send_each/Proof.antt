@@ -61,8 +61,8 @@ loop-again c = search rules
 returns : tie.Need-returns invariant-loop2 decreases-loop2 invariant-loop decreases-loop
 returns c = search rules
 
-pub timing-send-each-spec : {M : Type 1} → statement M
-timing-send-each-spec =
+pub timing_send_each_spec : {M : Type 1} → statement M
+timing_send_each_spec =
     tie.close
     (tie.spec
     invariant-loop2

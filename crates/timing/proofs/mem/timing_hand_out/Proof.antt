@@ -31,8 +31,8 @@ loop-again c = search rules
 returns : tie.Need-returns invariant-loop decreases-loop
 returns c = search rules
 
-pub timing-hand-out-spec : {M : Type 1} → statement M
-timing-hand-out-spec =
+pub timing_hand_out_spec : {M : Type 1} → statement M
+timing_hand_out_spec =
     tie.close
     (tie.spec
     invariant-loop

@@ -31,9 +31,9 @@ loop2-holds c = search rules
 mul-prb-mem : tie.Need-overflow-mul-prb-mem invariant-loop2 decreases-loop2 invariant-loop decreases-loop
 mul-prb-mem c = search rules
 
-shared-slice-copy-out-prb-mem :
+shared_slice_copy_out_prb_mem :
     tie.Need-shared-slice-copy-out-prb-mem invariant-loop2 decreases-loop2 invariant-loop decreases-loop
-shared-slice-copy-out-prb-mem c = search rules
+shared_slice_copy_out_prb_mem c = search rules
 
 mul-prb-mem-2 : tie.Need-overflow-mul-prb-mem-2 invariant-loop2 decreases-loop2 invariant-loop decreases-loop
 mul-prb-mem-2 c = search rules
@@ -68,8 +68,8 @@ loop-again c = search rules
 returns-2 : tie.Need-returns-2 invariant-loop2 decreases-loop2 invariant-loop decreases-loop
 returns-2 c = search rules
 
-pub timing-verdict-spec : {M : Type 1} → statement M
-timing-verdict-spec =
+pub timing_verdict_spec : {M : Type 1} → statement M
+timing_verdict_spec =
     tie.close
     (tie.spec
     invariant-loop2
@@ -81,7 +81,7 @@ timing-verdict-spec =
     loop-holds
     loop2-holds
     mul-prb-mem
-    shared-slice-copy-out-prb-mem
+    shared_slice_copy_out_prb_mem
     mul-prb-mem-2
     shared-slice-read-prb-mem
     prb-mem-requires

@@ -21,7 +21,7 @@ add-result c = omega (arith, c.shared-slice-known.given 0)
 returns-2 : tie.Need-returns-2
 returns-2 c = search rules
 
-pub told-spec : {M : Type 1} → statement M
-told-spec =
+pub told_spec : {M : Type 1} → statement M
+told_spec =
     tie.close
     (tie.spec returns cast-result shared-slice-read-result cast-result-2 add-result returns-2)

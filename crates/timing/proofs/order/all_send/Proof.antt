@@ -1,6 +1,6 @@
 -- `order::all_send` meets its contract: the state stays valid. Assumes nothing.
 use Rattle.std.proofs.Common.{suc, ◌-◌, ◌≤◌, rules}
-use Rattle.itron.specs.Limits.{maxTasks}
+use Rattle.itron.specs.Limits.{max_tasks}
 use Rattle.kernel.specs.Valid.{Valid}
 use Rattle.timing.proofs.order.all_send.Statement.{statement}
 use Rattle.timing.proofs.order.all_send.Tie as tie
@@ -12,10 +12,10 @@ abbrev decreases-loop : tie.decreases-loop
 decreases-loop s₀ capacity task i₀ s i = capacity - i
 
 abbrev invariant-loop2 : tie.invariant-loop2
-invariant-loop2 s₀ capacity task i sender₀ s sender = (sender ≤ suc maxTasks) × Valid s
+invariant-loop2 s₀ capacity task i sender₀ s sender = (sender ≤ suc max_tasks) × Valid s
 
 abbrev decreases-loop2 : tie.decreases-loop2
-decreases-loop2 s₀ capacity task i sender₀ s sender = suc maxTasks - sender
+decreases-loop2 s₀ capacity task i sender₀ s sender = suc max_tasks - sender
 
 loop-holds : tie.Need-loop-init invariant-loop decreases-loop invariant-loop2 decreases-loop2
 loop-holds c = search rules
@@ -56,8 +56,8 @@ loop2-again c = search rules
 returns : tie.Need-returns invariant-loop decreases-loop invariant-loop2 decreases-loop2
 returns c = search rules
 
-pub all-send-spec : {M : Type 1} → statement M
-all-send-spec =
+pub all_send_spec : {M : Type 1} → statement M
+all_send_spec =
     tie.close
     (tie.spec
     invariant-loop

@@ -1,15 +1,15 @@
 -- `order::all_wait` meets its contract: the state stays valid. Assumes nothing.
 use Rattle.std.proofs.Common.{suc, ◌-◌, ◌≤◌, rules}
-use Rattle.itron.specs.Limits.{maxTasks}
+use Rattle.itron.specs.Limits.{max_tasks}
 use Rattle.kernel.specs.Valid.{Valid}
 use Rattle.timing.proofs.order.all_wait.Statement.{statement}
 use Rattle.timing.proofs.order.all_wait.Tie as tie
 
 abbrev invariant-loop : tie.invariant-loop
-invariant-loop s₀ task₀ s task = (task ≤ suc maxTasks) × Valid s
+invariant-loop s₀ task₀ s task = (task ≤ suc max_tasks) × Valid s
 
 abbrev decreases-loop : tie.decreases-loop
-decreases-loop s₀ task₀ s task = suc maxTasks - task
+decreases-loop s₀ task₀ s task = suc max_tasks - task
 
 loop-holds : tie.Need-loop-init invariant-loop decreases-loop
 loop-holds c = search rules
@@ -32,8 +32,8 @@ loop-again c = search rules
 returns : tie.Need-returns invariant-loop decreases-loop
 returns c = search rules
 
-pub all-wait-spec : {M : Type 1} → statement M
-all-wait-spec =
+pub all_wait_spec : {M : Type 1} → statement M
+all_wait_spec =
     tie.close
     (tie.spec
     invariant-loop

@@ -1,15 +1,15 @@
 -- `order::table` meets its contract: the state is valid. Assumes nothing.
 use Rattle.std.proofs.Common.{◌-◌, ◌≤◌, rules}
-use Rattle.itron.specs.Limits.{maxTasks}
+use Rattle.itron.specs.Limits.{max_tasks}
 use Rattle.kernel.specs.Valid.{Valid}
 use Rattle.timing.proofs.order.table.Statement.{statement}
 use Rattle.timing.proofs.order.table.Tie as tie
 
 abbrev invariant-loop : tie.invariant-loop
-invariant-loop attribute capacity priorities s₀ i₀ s i = (i ≤ maxTasks) × Valid s
+invariant-loop attribute capacity priorities s₀ i₀ s i = (i ≤ max_tasks) × Valid s
 
 abbrev decreases-loop : tie.decreases-loop
-decreases-loop attribute capacity priorities s₀ i₀ s i = maxTasks - i
+decreases-loop attribute capacity priorities s₀ i₀ s i = max_tasks - i
 
 fresh-requires : tie.Need-fresh-requires invariant-loop decreases-loop
 fresh-requires c κs = search rules
@@ -44,8 +44,8 @@ close-requires c κs = search rules
 returns : tie.Need-returns invariant-loop decreases-loop
 returns c = search rules
 
-pub table-spec : {M : Type 1} → statement M
-table-spec =
+pub table_spec : {M : Type 1} → statement M
+table_spec =
     tie.close
     (tie.spec
     invariant-loop

@@ -40,8 +40,8 @@ loop-again c = search rules
 returns : tie.Need-returns invariant-loop decreases-loop
 returns c = search rules
 
-pub timing-receive-once-spec : {M : Type 1} → statement M
-timing-receive-once-spec =
+pub timing_receive_once_spec : {M : Type 1} → statement M
+timing_receive_once_spec =
     tie.close
     (tie.spec
     invariant-loop

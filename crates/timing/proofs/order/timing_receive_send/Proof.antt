@@ -46,8 +46,8 @@ loop-again c = search rules
 returns : tie.Need-returns invariant-loop decreases-loop
 returns c = search rules
 
-pub timing-receive-send-spec : {M : Type 1} → statement M
-timing-receive-send-spec =
+pub timing_receive_send_spec : {M : Type 1} → statement M
+timing_receive_send_spec =
     tie.close
     (tie.spec
     invariant-loop

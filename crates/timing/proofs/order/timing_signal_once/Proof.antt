@@ -37,8 +37,8 @@ loop-again c = search rules
 returns : tie.Need-returns invariant-loop decreases-loop
 returns c = search rules
 
-pub timing-signal-once-spec : {M : Type 1} → statement M
-timing-signal-once-spec =
+pub timing_signal_once_spec : {M : Type 1} → statement M
+timing_signal_once_spec =
     tie.close
     (tie.spec
     invariant-loop

@@ -43,8 +43,8 @@ loop-again c = search rules
 returns : tie.Need-returns invariant-loop decreases-loop
 returns c = search rules
 
-pub timing-signal-wait-spec : {M : Type 1} → statement M
-timing-signal-wait-spec =
+pub timing_signal_wait_spec : {M : Type 1} → statement M
+timing_signal_wait_spec =
     tie.close
     (tie.spec
     invariant-loop

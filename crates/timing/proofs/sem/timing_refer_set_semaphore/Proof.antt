@@ -37,8 +37,8 @@ loop-again c = search rules
 returns : tie.Need-returns invariant-loop decreases-loop
 returns c = search rules
 
-pub timing-refer-set-semaphore-spec : {M : Type 1} → statement M
-timing-refer-set-semaphore-spec =
+pub timing_refer_set_semaphore_spec : {M : Type 1} → statement M
+timing_refer_set_semaphore_spec =
     tie.close
     (tie.spec
     invariant-loop

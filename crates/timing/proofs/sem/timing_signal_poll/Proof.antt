@@ -40,8 +40,8 @@ loop-again c = search rules
 returns : tie.Need-returns invariant-loop decreases-loop
 returns c = search rules
 
-pub timing-signal-poll-spec : {M : Type 1} → statement M
-timing-signal-poll-spec =
+pub timing_signal_poll_spec : {M : Type 1} → statement M
+timing_signal_poll_spec =
     tie.close
     (tie.spec
     invariant-loop

@@ -40,8 +40,8 @@ loop-again c = search rules
 returns : tie.Need-returns invariant-loop decreases-loop
 returns c = search rules
 
-pub timing-wait-signal-spec : {M : Type 1} → statement M
-timing-wait-signal-spec =
+pub timing_wait_signal_spec : {M : Type 1} → statement M
+timing_wait_signal_spec =
     tie.close
     (tie.spec
     invariant-loop

@@ -40,8 +40,8 @@ loop-again c = search rules
 returns : tie.Need-returns invariant-loop decreases-loop
 returns c = search rules
 
-pub timing-enter-leave-spec : {M : Type 1} → statement M
-timing-enter-leave-spec =
+pub timing_enter_leave_spec : {M : Type 1} → statement M
+timing_enter_leave_spec =
     tie.close
     (tie.spec
     invariant-loop

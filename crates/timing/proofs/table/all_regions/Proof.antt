@@ -1,15 +1,15 @@
 -- `table::all_regions` meets its contract: the state stays valid. Assumes nothing.
 use Rattle.std.proofs.Common.{◌≡◌, ◌-◌, ◌*◌, ◌≤◌, rules}
-use Rattle.itron.specs.Limits.{maxRegions}
+use Rattle.itron.specs.Limits.{max_regions}
 use Rattle.kernel.specs.Valid.{Valid}
 use Rattle.timing.proofs.table.all_regions.Statement.{statement}
 use Rattle.timing.proofs.table.all_regions.Tie as tie
 
 abbrev invariant-loop : tie.invariant-loop
-invariant-loop s₀ base₀ i₀ s base i = (i ≤ maxRegions) × (base ≡ i * 4096) × Valid s
+invariant-loop s₀ base₀ i₀ s base i = (i ≤ max_regions) × (base ≡ i * 4096) × Valid s
 
 abbrev decreases-loop : tie.decreases-loop
-decreases-loop s₀ base₀ i₀ s base i = maxRegions - i
+decreases-loop s₀ base₀ i₀ s base i = max_regions - i
 
 fresh-requires : tie.Need-fresh-requires invariant-loop decreases-loop
 fresh-requires c κs = search rules
@@ -41,8 +41,8 @@ close-requires c κs = search rules
 returns : tie.Need-returns invariant-loop decreases-loop
 returns c = search rules
 
-pub all-regions-spec : {M : Type 1} → statement M
-all-regions-spec =
+pub all_regions_spec : {M : Type 1} → statement M
+all_regions_spec =
     tie.close
     (tie.spec
     invariant-loop

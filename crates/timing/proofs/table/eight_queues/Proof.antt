@@ -37,8 +37,8 @@ close-requires c κs = search rules
 returns : tie.Need-returns invariant-loop decreases-loop
 returns c = search rules
 
-pub eight-queues-spec : {M : Type 1} → statement M
-eight-queues-spec =
+pub eight_queues_spec : {M : Type 1} → statement M
+eight_queues_spec =
     tie.close
     (tie.spec
     invariant-loop

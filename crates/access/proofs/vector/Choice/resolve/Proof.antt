@@ -23,6 +23,6 @@ returns-2 c =
     let b = c.before.before.before in
     rw (to_z-of_z b.ranges.domain) at c.default-for.ensures ∙ by_default b.args.domain b.args.self c.before.before.match.keys2
 
-pub resolve-spec : {M : Type 1} → statement M
-resolve-spec =
+pub resolve_spec : {M : Type 1} → statement M
+resolve_spec =
     tie.close (tie.spec enum-known-self enum_told default-for-requires returns returns-2)

@@ -2,15 +2,15 @@
 use Prim.Native.Nat.{◌+◌, ◌-◌}
 use mathlib.Core.Path.{◌≡◌, sym, ap, ◌∙◌}
 use lib.ListN.{length, drop}
-use Rattle.command.specs.Lines.{gatheredOf}
-use Rattle.command.proofs.Walks.{gather-ends, gather-goes, gather-stops}
+use Rattle.command.specs.Lines.{gathered_of}
+use Rattle.command.proofs.Walks.{gather_ends, gather_goes, gather_stops}
 use borrow.Author.Rules.{rules}
 use Rattle.command.specs.declared.line.Line.{Line}
 use Rattle.command.proofs.line.Line.gathered.Statement.{statement}
 use Rattle.command.proofs.line.Line.gathered.Tie as tie
 
 abbrev invariant-loop : tie.invariant-loop
-invariant-loop block from line₀ at₀ line at = gatheredOf line₀ from (drop from block) ≡ gatheredOf line at (drop at block)
+invariant-loop block from line₀ at₀ line at = gathered_of line₀ from (drop from block) ≡ gathered_of line at (drop at block)
 
 abbrev decreases-loop : tie.decreases-loop
 decreases-loop block from line₀ at₀ line at = length block - at
@@ -27,7 +27,7 @@ add_at c = search rules
 returns : tie.Need-returns invariant-loop decreases-loop
 returns c =
     let l = c.before.before.before in
-    sym (l.loop.invariant ∙ gather-ends l.before.before.args.block.now l.loop.line l.loop.at c.before.before.loop-test.true c.if1.true)
+    sym (l.loop.invariant ∙ gather_ends l.before.before.args.block.now l.loop.line l.loop.at c.before.before.loop-test.true c.if1.true)
 
 pushed-requires : tie.Need-pushed-requires invariant-loop decreases-loop
 pushed-requires c κs = search rules
@@ -40,16 +40,16 @@ loop-again c =
     let l = c.before.before.before.before in
     let b = l.before.before.args.block.now in
     let i = l.loop.at in
-    l.loop.invariant ∙ gather-goes b l.loop.line i c.before.before.before.loop-test.true c.before.if1.false
-    ∙ ap (λ (x : Line). gatheredOf x (i + 1) (drop (i + 1) b)) (sym c.pushed.ensures)
+    l.loop.invariant ∙ gather_goes b l.loop.line i c.before.before.before.loop-test.true c.before.if1.false
+    ∙ ap (λ (x : Line). gathered_of x (i + 1) (drop (i + 1) b)) (sym c.pushed.ensures)
 
 returns-2 : tie.Need-returns-2 invariant-loop decreases-loop
 returns-2 c =
     let l = c.before in
-    sym (l.loop.invariant ∙ gather-stops l.before.before.args.block.now l.loop.line l.loop.at c.loop-test.false)
+    sym (l.loop.invariant ∙ gather_stops l.before.before.args.block.now l.loop.line l.loop.at c.loop-test.false)
 
-pub gathered-spec : {M : Type 1} → statement M
-gathered-spec =
+pub gathered_spec : {M : Type 1} → statement M
+gathered_spec =
     tie.close
     (tie.spec
     invariant-loop

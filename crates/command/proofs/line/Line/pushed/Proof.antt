@@ -19,5 +19,5 @@ returns-2 : tie.Need-returns-2
 unfolding pushed
 returns-2 c = rw (lt-ltb _ _ c.if1.false)
 
-pub pushed-spec : {M : Type 1} → statement M
-pushed-spec = tie.close (tie.spec returns element-write-self add-self returns-2)
+pub pushed_spec : {M : Type 1} → statement M
+pushed_spec = tie.close (tie.spec returns element-write-self add-self returns-2)

@@ -3,13 +3,13 @@ use borrow.Author.Rules.{rules}
 use native.Mathlib.Omega.{arith}
 use Prim.Native.Nat.{suc, ◌-◌}
 use mathlib.Core.Path.{◌≡◌}
-use Rattle.command.specs.Lines.{withoutCr}
-use Rattle.command.proofs.Walks.{cut-cr, cut-other}
+use Rattle.command.specs.Lines.{without_cr}
+use Rattle.command.proofs.Walks.{cut_cr, cut_other}
 use Rattle.command.proofs.line.Line.without_cr.Statement.{statement}
 use Rattle.command.proofs.line.Line.without_cr.Tie as tie
 
 returns : tie.Need-returns
-unfolding withoutCr
+unfolding without_cr
 returns c = (rw c.if1.true, search rules)
 
 sub-last : tie.Need-overflow-sub-last
@@ -19,18 +19,18 @@ element-copy-out-byte : tie.Need-element-copy-out-byte
 element-copy-out-byte c = search rules
 
 returns-2 : tie.Need-returns-2
-unfolding withoutCr
+unfolding without_cr
 returns-2 c =
     let a = c.before.before.before.args.t1 in
     let e : a.count ≡ suc (a.count - 1) = omega arith in
-    (cut-cr a (a.count - 1) e c.if2.true, search rules)
+    (cut_cr a (a.count - 1) e c.if2.true, search rules)
 
 returns-3 : tie.Need-returns-3
-unfolding withoutCr
+unfolding without_cr
 returns-3 c =
     let a = c.before.before.before.args.t1 in
     let e : a.count ≡ suc (a.count - 1) = omega arith in
-    (cut-other a (a.count - 1) e c.if2.false, search rules)
+    (cut_other a (a.count - 1) e c.if2.false, search rules)
 
-pub without-cr-spec : {M : Type 1} → statement M
-without-cr-spec = tie.close (tie.spec returns sub-last element-copy-out-byte returns-2 returns-3)
+pub without_cr_spec : {M : Type 1} → statement M
+without_cr_spec = tie.close (tie.spec returns sub-last element-copy-out-byte returns-2 returns-3)

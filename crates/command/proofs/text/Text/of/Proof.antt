@@ -4,15 +4,15 @@ use Prim.Native.Nat.{◌+◌, ◌-◌, ◌≤◌}
 use mathlib.Core.Path.{◌≡◌, sym, ap, ◌∙◌}
 use native.Mathlib.Omega.{arith}
 use lib.ListN.{length, take, drop}
-use Rattle.command.specs.Lines.{lineSize}
-use Rattle.command.specs.Texts.{text_of, textFrom}
-use Rattle.command.proofs.Walks.{text-ends, text-goes, text-stops}
+use Rattle.command.specs.Lines.{line_size}
+use Rattle.command.specs.Texts.{text_of, text_from}
+use Rattle.command.proofs.Walks.{text_ends, text_goes, text_stops}
 use Rattle.command.specs.declared.text.Text.{Text}
 use Rattle.command.proofs.text.Text.of.Statement.{statement}
 use Rattle.command.proofs.text.Text.of.Tie as tie
 
 abbrev invariant-loop : tie.invariant-loop
-invariant-loop line text₀ i₀ text i = (text.count ≤ lineSize) × (text_of line ≡ textFrom text (drop i (take line.count line.bytes)))
+invariant-loop line text₀ i₀ text i = (text.count ≤ line_size) × (text_of line ≡ text_from text (drop i (take line.count line.bytes)))
 
 abbrev decreases-loop : tie.decreases-loop
 decreases-loop line text₀ i₀ text i = line.count - i
@@ -22,13 +22,13 @@ empty-requires c κs = search rules
 
 -- the line's bytes hold the count that is read of them
 fits : (c : tie.After-empty invariant-loop decreases-loop) → c.before.args.t1.count ≤ length c.before.args.t1.bytes
-fits c = let l : length c.before.args.t1.bytes ≡ lineSize = search rules in omega arith
+fits c = let l : length c.before.args.t1.bytes ≡ line_size = search rules in omega arith
 
 loop-holds : tie.Need-loop-init invariant-loop decreases-loop
 unfolding text_of
 loop-holds c =
     let a = c.before.args.t1 in
-    (search rules, ap (λ (x : Text). textFrom x (take a.count a.bytes)) (sym c.empty.ensures.0))
+    (search rules, ap (λ (x : Text). text_from x (take a.count a.bytes)) (sym c.empty.ensures.0))
 
 element-copy-out-byte : tie.Need-element-copy-out-byte invariant-loop decreases-loop
 element-copy-out-byte c = search rules
@@ -37,7 +37,7 @@ returns : tie.Need-returns invariant-loop decreases-loop
 returns c =
     let l = c.before.before.before in
     let a = l.before.before.args.t1 in
-    (sym (l.loop.invariant.1 ∙ text-ends a.bytes a.count l.loop.text l.loop.i (fits l.before) c.before.before.loop-test.true c.if1.true), search rules)
+    (sym (l.loop.invariant.1 ∙ text_ends a.bytes a.count l.loop.text l.loop.i (fits l.before) c.before.before.loop-test.true c.if1.true), search rules)
 
 with-requires : tie.Need-with-requires invariant-loop decreases-loop
 with-requires c κs = search rules
@@ -54,15 +54,15 @@ loop-again c =
     let a = l.before.before.args.t1 in
     let i = l.loop.i in (
       search rules,
-      l.loop.invariant.1 ∙ text-goes a.bytes a.count l.loop.text i (fits l.before) c.before.before.before.loop-test.true c.before.if1.false
-          ∙ ap (λ (x : Text). textFrom x (drop (i + 1) (take a.count a.bytes))) (sym c.with.ensures.0),
+      l.loop.invariant.1 ∙ text_goes a.bytes a.count l.loop.text i (fits l.before) c.before.before.before.loop-test.true c.before.if1.false
+          ∙ ap (λ (x : Text). text_from x (drop (i + 1) (take a.count a.bytes))) (sym c.with.ensures.0),
     )
 
 returns-2 : tie.Need-returns-2 invariant-loop decreases-loop
 returns-2 c =
     let l = c.before in
     let a = l.before.before.args.t1 in
-    (sym (l.loop.invariant.1 ∙ text-stops a.bytes a.count l.loop.text l.loop.i (fits l.before) c.loop-test.false), search rules)
+    (sym (l.loop.invariant.1 ∙ text_stops a.bytes a.count l.loop.text l.loop.i (fits l.before) c.loop-test.false), search rules)
 
 pub of_spec : {M : Type 1} → statement M
 of_spec =

@@ -4,31 +4,31 @@ use native.Mathlib.Omega.{arith}
 use mathlib.Core.Path.{◌≡◌, sym, ap, ◌∙◌}
 use Prim.Native.Nat.{◌-◌}
 use mir.Facts.{to_z-of_z}
-use Rattle.access.specs.Domains.{ordinalOf}
-use Rattle.itron.specs.Limits.{maxQueues}
+use Rattle.access.specs.Domains.{ordinal_of}
+use Rattle.itron.specs.Limits.{max_queues}
 use Rattle.model.specs.Queues.{room}
 use Rattle.model.specs.declared.check.Target.TheVariants.{At}
 use Rattle.model.proofs.Targets.{out_of_range, missing, found}
-use Rattle.dataqueue.specs.View.{queuesOf}
-use Rattle.dataqueue.proofs.Links.{count-seen}
+use Rattle.dataqueue.specs.View.{queues_of}
+use Rattle.dataqueue.proofs.Links.{count_seen}
 use Rattle.dataqueue.proofs.state.Queues.find.Statement.{statement}
 use Rattle.dataqueue.proofs.state.Queues.find.Tie as tie
 
 ordinal-requires : tie.Need-ordinal-requires
 ordinal-requires c κs = search rules
 
-number : (c : tie.After-ordinal) → c.ordinal.result ≡ ordinalOf c.before.args.id maxQueues
+number : (c : tie.After-ordinal) → c.ordinal.result ≡ ordinal_of c.before.args.id max_queues
 number c = rw (to_z-of_z c.before.ranges.id) at c.ordinal.ensures
 
 returns : tie.Need-returns
-returns c = let p = c.before in let a = p.before.args in out_of_range room (queuesOf a.self) a.id (sym (number p) ∙ c.if1.true)
+returns c = let p = c.before in let a = p.before.args in out_of_range room (queues_of a.self) a.id (sym (number p) ∙ c.if1.true)
 
 returns-2 : tie.Need-returns-2
 returns-2 c =
     let z = c.before.before in
     let p = z.before in
     let b = p.before in
-    missing room (queuesOf b.args.self) b.args.id p.ordinal.result (number p) z.if1.false (let n = count-seen b.requires in omega (arith, c.if2.true))
+    missing room (queues_of b.args.self) b.args.id p.ordinal.result (number p) z.if1.false (let n = count_seen b.requires in omega (arith, c.if2.true))
 
 sub-object : tie.Need-overflow-sub-object
 sub-object c = search rules
@@ -37,7 +37,7 @@ vector-requires : tie.Need-vector-requires
 vector-requires c κs =
     let z = c.before.before in
     let b = z.before.before in
-    (b.requires, let n = count-seen b.requires in omega (arith, z.if1.false, c.if2.false))
+    (b.requires, let n = count_seen b.requires in omega (arith, z.if1.false, c.if2.false))
 
 returns-3 : tie.Need-returns-3
 returns-3 c =
@@ -46,7 +46,7 @@ returns-3 c =
     let p = z.before in
     let b = p.before in
     ap (At (p.ordinal.result - 1)) c.vector.ensures
-    ∙ found room (queuesOf b.args.self) b.args.id p.ordinal.result (number p) z.if1.false (let n = count-seen b.requires in omega (arith, l.if2.false))
+    ∙ found room (queues_of b.args.self) b.args.id p.ordinal.result (number p) z.if1.false (let n = count_seen b.requires in omega (arith, l.if2.false))
 
 pub find_spec : {M : Type 1} → statement M
 find_spec =

@@ -3,9 +3,9 @@ use borrow.Author.Rules.{rules}
 use Prim.Native.Nat.{◌+◌, ◌<◌}
 use native.Mathlib.Omega.{arith}
 use mathlib.Core.Path.{ap}
-use Rattle.itron.specs.Limits.{maxWords}
+use Rattle.itron.specs.Limits.{max_words}
 use Rattle.dataqueue.specs.declared.state.Queue.{Queue}
-use Rattle.dataqueue.proofs.Links.{recordIn, record-seen, record-part, push-link}
+use Rattle.dataqueue.proofs.Links.{record_in, record_seen, record_part, push_link}
 use Rattle.dataqueue.proofs.state.Queues.push.Statement.{statement}
 use Rattle.dataqueue.proofs.state.Queues.push.Tie as tie
 
@@ -16,12 +16,12 @@ element-copy-out-queue : tie.Need-element-copy-out-queue
 element-copy-out-queue c = search rules
 
 -- the word's place
-low : (c : tie.After-queue) → let r = recordIn c.before.args.t1 c.before.args.object in r.first + r.len < maxWords
+low : (c : tie.After-queue) → let r = record_in c.before.args.t1 c.before.args.object in r.first + r.len < max_words
 low c =
     let b = c.before in
-    let p = record-part b.requires.0 b.args.object b.requires.1 in
-    let e = ap (λ (q : Queue). q.len) (record-seen b.requires.0 b.args.object b.requires.1) in
-    let f = ap (λ (q : Queue). q.capacity) (record-seen b.requires.0 b.args.object b.requires.1) in
+    let p = record_part b.requires.0 b.args.object b.requires.1 in
+    let e = ap (λ (q : Queue). q.len) (record_seen b.requires.0 b.args.object b.requires.1) in
+    let f = ap (λ (q : Queue). q.capacity) (record_seen b.requires.0 b.args.object b.requires.1) in
     let r = b.requires.2 in
     omega arith
 
@@ -46,7 +46,7 @@ element-set-from-queue c = search rules
 returns : tie.Need-returns
 returns c =
     let b = c.before.before.before in
-    push-link b.requires.0 b.args.object b.requires.1 b.args.word b.requires.2
+    push_link b.requires.0 b.args.object b.requires.1 b.args.word b.requires.2
 
 pub push_spec : {M : Type 1} → statement M
 push_spec =

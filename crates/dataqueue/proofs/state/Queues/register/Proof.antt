@@ -4,8 +4,8 @@ use mathlib.Core.Path.{◌≡◌, ◌∙◌}
 use mathlib.Core.List.{[], ◌∷◌, ◌++◌}
 use mir.Syntax.{w32}
 use mir.Val.{to_z, of_z}
-use Rattle.dataqueue.specs.View.{queuesOf}
-use Rattle.dataqueue.specs.Form.{queuesAs}
+use Rattle.dataqueue.specs.View.{queues_of}
+use Rattle.dataqueue.specs.Form.{queues_as}
 use Rattle.dataqueue.proofs.state.Queues.register.Statement.{statement}
 use Rattle.dataqueue.proofs.state.Queues.register.Tie as tie
 
@@ -25,7 +25,7 @@ returns c =
     let a = q.before.before.args in
     let d = sign q.before in
     let r = rw d at q.resolve.ensures in
-    c.add.ensures ∙ (λ i. queuesAs (queuesOf a.self ++ (record { domain = d i; attribute = a.given.attribute; capacity = a.given.capacity; buffer = []; vector = r i } ∷ [])))
+    c.add.ensures ∙ (λ i. queues_as (queues_of a.self ++ (record { domain = d i; attribute = a.given.attribute; capacity = a.given.capacity; buffer = []; vector = r i } ∷ [])))
 
-pub register-spec : {M : Type 1} → statement M
-register-spec = tie.close (tie.spec resolve-requires add-requires returns)
+pub register_spec : {M : Type 1} → statement M
+register_spec = tie.close (tie.spec resolve-requires add-requires returns)

@@ -1,6 +1,6 @@
 -- `Queues::set_vector` meets its contract. Assumes nothing.
 use borrow.Author.Rules.{rules}
-use Rattle.dataqueue.proofs.Links.{vector-link}
+use Rattle.dataqueue.proofs.Links.{vector_link}
 use Rattle.dataqueue.proofs.state.Queues.set_vector.Statement.{statement}
 use Rattle.dataqueue.proofs.state.Queues.set_vector.Tie as tie
 
@@ -17,9 +17,9 @@ element-set-from-queue : tie.Need-element-set-from-queue
 element-set-from-queue c = search rules
 
 returns : tie.Need-returns
-returns c = let b = c.before in vector-link b.requires.0 b.args.object b.requires.1 b.args.vector
+returns c = let b = c.before in vector_link b.requires.0 b.args.object b.requires.1 b.args.vector
 
-pub set-vector-spec : {M : Type 1} → statement M
-set-vector-spec =
+pub set_vector_spec : {M : Type 1} → statement M
+set_vector_spec =
     tie.close
     (tie.spec mul-queue element-copy-out-queue mul-queue-2 element-set-from-queue returns)

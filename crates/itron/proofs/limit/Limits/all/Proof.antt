@@ -6,5 +6,5 @@ use Rattle.itron.proofs.limit.Limits.all.Tie as tie
 returns : tie.Need-returns
 returns c = refl
 
-pub all-spec : {M : Type 1} → statement M
-all-spec = tie.close (tie.spec returns)
+pub all_spec : {M : Type 1} → statement M
+all_spec = tie.close (tie.spec returns)

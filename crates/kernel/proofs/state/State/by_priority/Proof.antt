@@ -1,11 +1,11 @@
 -- `State::by_priority` meets its contract. Assumes nothing.
 use borrow.Author.Rules.{rules}
 use mathlib.Core.Path.{ap, ◌∙◌}
-use Rattle.model.specs.Waits.{byPriority}
+use Rattle.model.specs.Waits.{by_priority}
 use Rattle.model.specs.declared.sem.Semaphore.{Semaphore}
 use Rattle.dataqueue.specs.declared.state.QueueInfo.{QueueInfo}
 use Rattle.kernel.specs.View.{view_of}
-use Rattle.kernel.proofs.Places.{order-on-sem, order-receiving, order-sending}
+use Rattle.kernel.proofs.Places.{order_on_sem, order_receiving, order_sending}
 use Rattle.kernel.proofs.state.State.by_priority.Statement.{statement}
 use Rattle.kernel.proofs.state.State.by_priority.Tie as tie
 
@@ -35,20 +35,20 @@ returns c =
     let s = c.before in
     let m = s.before.before in
     let a = m.before.args in
-    order-on-sem (view_of a.self) a.side a.number m.match.keys1 (c.by-priority.ensures ∙ ap (λ (x : Semaphore). byPriority x.attribute) s.semaphore.ensures)
+    order_on_sem (view_of a.self) a.side a.number m.match.keys1 (c.by-priority.ensures ∙ ap (λ (x : Semaphore). by_priority x.attribute) s.semaphore.ensures)
 
 returns-2 : tie.Need-returns-2
-returns-2 c = let m = c.before in let a = m.before.args in order-receiving (view_of a.self) a.side a.number m.match.keys2
+returns-2 c = let m = c.before in let a = m.before.args in order_receiving (view_of a.self) a.side a.number m.match.keys2
 
 returns-3 : tie.Need-returns-3
 returns-3 c =
     let s = c.before in
     let m = s.before.before in
     let a = m.before.args in
-    order-sending (view_of a.self) a.side a.number m.match.keys3 (c.by-priority2.ensures ∙ ap (λ (x : QueueInfo). byPriority x.attribute) s.queue.ensures)
+    order_sending (view_of a.self) a.side a.number m.match.keys3 (c.by-priority2.ensures ∙ ap (λ (x : QueueInfo). by_priority x.attribute) s.queue.ensures)
 
-pub by-priority-spec : {M : Type 1} → statement M
-by-priority-spec =
+pub by_priority_spec : {M : Type 1} → statement M
+by_priority_spec =
     tie.close
     (tie.spec
     enum_told

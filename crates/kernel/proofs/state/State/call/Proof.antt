@@ -50,8 +50,8 @@ returns-3 c =
     let b = x.before.before in
     subst (λ (q : Request). Does b.args.self (call b.args.caller (op_of q)) c.on-level.result) (sym x.request3.given.1) (rw (to_z-of_z b.ranges.caller) at c.on-level.ensures)
 
-pub call-spec : {M : Type 1} → statement M
-call-spec =
+pub call_spec : {M : Type 1} → statement M
+call_spec =
     tie.close
     (tie.spec
     enum-known-request

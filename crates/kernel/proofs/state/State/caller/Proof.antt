@@ -11,9 +11,9 @@ use mir.Facts.{to_z-of_z}
 use Rattle.model.specs.State.{no}
 use Rattle.tasks.specs.declared.wait.Caller.TheVariants as Caller
 use Rattle.kernel.specs.View.{view_of}
-use Rattle.kernel.proofs.Back.{tasks-held}
-use Rattle.kernel.proofs.Checks.{nobody, owned, nobody-calls, Called, known-caller, runs_as}
-use Rattle.kernel.proofs.Levels.{level-seen}
+use Rattle.kernel.proofs.Back.{tasks_held}
+use Rattle.kernel.proofs.Checks.{nobody, owned, nobody_calls, Called, known_caller, runs_as}
+use Rattle.kernel.proofs.Levels.{level_seen}
 use Rattle.kernel.proofs.state.State.caller.Statement.{statement}
 use Rattle.kernel.proofs.state.State.caller.Tie as tie
 
@@ -21,7 +21,7 @@ returns : tie.Need-returns
 returns c = let h = not-true c.before.before.args.self.closed c.if1.true in rw h
 
 caller-requires : tie.Need-caller-requires
-caller-requires c κs = tasks-held c.before.before.before.requires
+caller-requires c κs = tasks_held c.before.before.before.requires
 
 enum-known-task : tie.Need-enum-known-task
 enum-known-task c = search rules
@@ -40,14 +40,14 @@ returns-2 : tie.Need-returns-2
 returns-2 c =
     let p = c.before.before in
     let a = p.before.before.before.before.args in
-    nobody-calls (view_of a.self) (no a.number) (closed p) (names p ∙ nobody p.caller.result c.before.match.keys2)
+    nobody_calls (view_of a.self) (no a.number) (closed p) (names p ∙ nobody p.caller.result c.before.match.keys2)
 
 -- the task that calls
 calls : (c : tie.After-task) → let a = c.before.before.before.before.before.before.args in Called (view_of a.self) (no a.number) c.task.given.0.0
 calls c =
     let p = c.before.before in
     let a = p.before.before.before.before.args in
-    known-caller (view_of a.self) (no a.number) (closed p) _ (names p ∙ c.task.given.1)
+    known_caller (view_of a.self) (no a.number) (closed p) _ (names p ∙ c.task.given.1)
 
 level-requires : tie.Need-level-requires
 level-requires c κs =
@@ -69,7 +69,7 @@ returns-3 c =
     let e : to_z w32 (of_z w32 d) ≡ d = search rules in
     let g : to_z w32 (of_z w32 c.running.result) ≡ c.running.result = search rules in
     ap (λ (z : ℤ). Caller.Ready x.task.given.0.0 z) (g ∙ rw e at c.running.ensures)
-    ∙ runs_as (view_of a.self) (no a.number) (closed p) _ l.level.result (names p ∙ x.task.given.1) (l.level.ensures ∙ level-seen a.self _ (calls x).low)
+    ∙ runs_as (view_of a.self) (no a.number) (closed p) _ l.level.result (names p ∙ x.task.given.1) (l.level.ensures ∙ level_seen a.self _ (calls x).low)
 
-pub caller-spec : {M : Type 1} → statement M
-caller-spec = tie.close (tie.spec returns caller-requires enum-known-task enum_told returns-2 level-requires running-requires returns-3)
+pub caller_spec : {M : Type 1} → statement M
+caller_spec = tie.close (tie.spec returns caller-requires enum-known-task enum_told returns-2 level-requires running-requires returns-3)

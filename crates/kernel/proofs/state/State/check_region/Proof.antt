@@ -6,19 +6,19 @@ use lib.Dec.{ltb}
 use lib.ListN.{length}
 use mir.Syntax.{w32}
 use mir.Val.{to_z, of_z}
-use Rattle.itron.specs.Limits.{maxRegions}
+use Rattle.itron.specs.Limits.{max_regions}
 use Rattle.model.specs.Answers.{result_of}
 use Rattle.model.specs.Table.{owns}
-use Rattle.regions.specs.Entries.{entryCheck}
+use Rattle.regions.specs.Entries.{entry_check}
 use Rattle.kernel.specs.View.{view_of}
-use Rattle.kernel.specs.Inside.{opening, firstHit}
-use Rattle.kernel.proofs.Back.{regions-held}
-use Rattle.kernel.proofs.Building.{opening-then}
+use Rattle.kernel.specs.Inside.{opening, first_hit}
+use Rattle.kernel.proofs.Back.{regions_held}
+use Rattle.kernel.proofs.Building.{opening_then}
 use Rattle.kernel.proofs.state.State.check_region.Statement.{statement}
 use Rattle.kernel.proofs.state.State.check_region.Tie as tie
 
 len-requires : tie.Need-len-requires
-len-requires c κs = regions-held c.before.requires
+len-requires c κs = regions_held c.before.requires
 
 sign : (c : tie.After-struct-told) → let d = c.before.before.before.args.given.domain in to_z w32 (of_z w32 d) ≡ d
 sign c = search rules
@@ -30,7 +30,7 @@ opening-requires : tie.Need-opening-requires
 opening-requires c κs = search rules
 
 check-requires : tie.Need-check-requires
-check-requires c κs = regions-held c.before.before.before.before.before.requires
+check-requires c κs = regions_held c.before.before.before.before.before.requires
 
 first-hit-requires : tie.Need-first-hit-requires
 first-hit-requires c κs = search rules
@@ -46,12 +46,12 @@ returns c =
     let g : to_z w32 (of_z w32 k.check.result) ≡ k.check.result = search rules in
     let l = n.len.ensures in
     let d = rw (sign o.before.before) at o.before.owns.ensures in
-    let x = f ∙ o.opening.ensures ∙ (λ i. result_of (opening a.self.closed (l i) maxRegions (d i))) in
+    let x = f ∙ o.opening.ensures ∙ (λ i. result_of (opening a.self.closed (l i) max_regions (d i))) in
     let y = g ∙ k.check.ensures in
-    e ∙ c.first-hit.ensures ∙ (λ i. firstHit (x i) (y i)) ∙ opening-then a.self.closed (not (ltb (length (view_of a.self).fixed.regions) maxRegions)) (not (owns a.self.domains a.given.domain)) (entryCheck (view_of a.self).fixed.unit (view_of a.self).fixed.regions a.given.attribute a.given.base a.given.size)
+    e ∙ c.first-hit.ensures ∙ (λ i. first_hit (x i) (y i)) ∙ opening_then a.self.closed (not (ltb (length (view_of a.self).fixed.regions) max_regions)) (not (owns a.self.domains a.given.domain)) (entry_check (view_of a.self).fixed.unit (view_of a.self).fixed.regions a.given.attribute a.given.base a.given.size)
 
-pub check-region-spec : {M : Type 1} → statement M
-check-region-spec =
+pub check_region_spec : {M : Type 1} → statement M
+check_region_spec =
     tie.close
     (tie.spec
     len-requires

@@ -6,19 +6,19 @@ use lib.Dec.{ltb}
 use lib.ListN.{length}
 use mir.Syntax.{w32}
 use mir.Val.{to_z, of_z}
-use Rattle.itron.specs.Limits.{maxSemaphores}
+use Rattle.itron.specs.Limits.{max_semaphores}
 use Rattle.model.specs.Answers.{result_of}
 use Rattle.model.specs.Table.{owns}
-use Rattle.semaphore.specs.Entries.{entryCheck}
+use Rattle.semaphore.specs.Entries.{entry_check}
 use Rattle.kernel.specs.View.{view_of}
-use Rattle.kernel.specs.Inside.{opening, firstHit}
-use Rattle.kernel.proofs.Back.{sems-held}
-use Rattle.kernel.proofs.Building.{opening-then}
+use Rattle.kernel.specs.Inside.{opening, first_hit}
+use Rattle.kernel.proofs.Back.{sems_held}
+use Rattle.kernel.proofs.Building.{opening_then}
 use Rattle.kernel.proofs.state.State.check_semaphore.Statement.{statement}
 use Rattle.kernel.proofs.state.State.check_semaphore.Tie as tie
 
 len-requires : tie.Need-len-requires
-len-requires c κs = sems-held c.before.requires
+len-requires c κs = sems_held c.before.requires
 
 sign : (c : tie.After-struct-told) → let d = c.before.before.before.args.given.domain in to_z w32 (of_z w32 d) ≡ d
 sign c = search rules
@@ -46,12 +46,12 @@ returns c =
     let g : to_z w32 (of_z w32 k.check.result) ≡ k.check.result = search rules in
     let l = n.len.ensures in
     let d = rw (sign o.before.before) at o.before.owns.ensures in
-    let x = f ∙ o.opening.ensures ∙ (λ i. result_of (opening a.self.closed (l i) maxSemaphores (d i))) in
+    let x = f ∙ o.opening.ensures ∙ (λ i. result_of (opening a.self.closed (l i) max_semaphores (d i))) in
     let y = g ∙ k.check.ensures in
-    e ∙ c.first-hit.ensures ∙ (λ i. firstHit (x i) (y i)) ∙ opening-then a.self.closed (not (ltb (length (view_of a.self).sems) maxSemaphores)) (not (owns a.self.domains a.given.domain)) (entryCheck a.given.attribute a.given.start a.given.max)
+    e ∙ c.first-hit.ensures ∙ (λ i. first_hit (x i) (y i)) ∙ opening_then a.self.closed (not (ltb (length (view_of a.self).sems) max_semaphores)) (not (owns a.self.domains a.given.domain)) (entry_check a.given.attribute a.given.start a.given.max)
 
-pub check-semaphore-spec : {M : Type 1} → statement M
-check-semaphore-spec =
+pub check_semaphore_spec : {M : Type 1} → statement M
+check_semaphore_spec =
     tie.close
     (tie.spec
     len-requires

@@ -7,19 +7,19 @@ use lib.ListN.{length}
 use mir.Syntax.{w32}
 use mir.Val.{to_z, of_z}
 use mir.Facts.{to_z-of_z}
-use Rattle.itron.specs.Limits.{maxTasks}
+use Rattle.itron.specs.Limits.{max_tasks}
 use Rattle.model.specs.Answers.{result_of}
-use Rattle.model.specs.Table.{ownsTask}
-use Rattle.tasks.specs.Entries.{entryCheck}
+use Rattle.model.specs.Table.{owns_task}
+use Rattle.tasks.specs.Entries.{entry_check}
 use Rattle.kernel.specs.View.{view_of}
-use Rattle.kernel.specs.Inside.{opening, firstHit}
-use Rattle.kernel.proofs.Back.{tasks-held}
-use Rattle.kernel.proofs.Building.{opening-then}
+use Rattle.kernel.specs.Inside.{opening, first_hit}
+use Rattle.kernel.proofs.Back.{tasks_held}
+use Rattle.kernel.proofs.Building.{opening_then}
 use Rattle.kernel.proofs.state.State.check_task.Statement.{statement}
 use Rattle.kernel.proofs.state.State.check_task.Tie as tie
 
 len-requires : tie.Need-len-requires
-len-requires c κs = tasks-held c.before.requires
+len-requires c κs = tasks_held c.before.requires
 
 owns-task-requires : tie.Need-owns-task-requires
 owns-task-requires c κs = search rules
@@ -45,12 +45,12 @@ returns c =
     let g : to_z w32 (of_z w32 k.check.result) ≡ k.check.result = search rules in
     let l = n.len.ensures in
     let d = rw (to_z-of_z b.ranges.domain) at o.before.owns-task.ensures in
-    let x = f ∙ o.opening.ensures ∙ (λ i. result_of (opening a.self.closed (l i) maxTasks (d i))) in
+    let x = f ∙ o.opening.ensures ∙ (λ i. result_of (opening a.self.closed (l i) max_tasks (d i))) in
     let y = g ∙ k.check.ensures in
-    e ∙ c.first-hit.ensures ∙ (λ i. firstHit (x i) (y i)) ∙ opening-then a.self.closed (not (ltb (length (view_of a.self).fixed.tasks) maxTasks)) (not (ownsTask a.self.domains a.domain)) (entryCheck a.priority)
+    e ∙ c.first-hit.ensures ∙ (λ i. first_hit (x i) (y i)) ∙ opening_then a.self.closed (not (ltb (length (view_of a.self).fixed.tasks) max_tasks)) (not (owns_task a.self.domains a.domain)) (entry_check a.priority)
 
-pub check-task-spec : {M : Type 1} → statement M
-check-task-spec =
+pub check_task_spec : {M : Type 1} → statement M
+check_task_spec =
     tie.close
     (tie.spec
     len-requires

@@ -21,6 +21,6 @@ empty-requires-4 c κs = search rules
 returns : tie.Need-returns
 returns c = cc
 
-pub empty-spec : {M : Type 1} → statement M
-empty-spec =
+pub empty_spec : {M : Type 1} → statement M
+empty_spec =
     tie.close (tie.spec empty-requires outside-requires empty-requires-2 empty-requires-3 empty-requires-4 returns)

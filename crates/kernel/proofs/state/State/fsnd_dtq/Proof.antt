@@ -3,9 +3,9 @@ use borrow.Author.Rules.{rules}
 use mathlib.Core.Path.{refl}
 use mir.Facts.{to_z-of_z}
 use Rattle.model.specs.Acts.{own}
-use Rattle.model.specs.Calls.{onQueue}
+use Rattle.model.specs.Calls.{on_queue}
 use Rattle.model.specs.declared.dtq.QueueCall.TheVariants.{ForcedSend as forcedSend}
-use Rattle.kernel.proofs.Calls.{queues, on-part}
+use Rattle.kernel.proofs.Calls.{queues, on_part}
 use Rattle.kernel.proofs.state.State.fsnd_dtq.Statement.{statement}
 use Rattle.kernel.proofs.state.State.fsnd_dtq.Tie as tie
 
@@ -19,7 +19,7 @@ returns : tie.Need-returns
 returns c =
     let b = c.before.before in
     let a = b.args in
-    on-part b.requires (queues b.requires) a.caller a.id (own (forcedSend a.word)) (onQueue a.id (own (forcedSend a.word))) refl (rw (to_z-of_z b.ranges.caller, to_z-of_z b.ranges.id) at c.before.queue-effect.ensures) c.with-queues.ensures
+    on_part b.requires (queues b.requires) a.caller a.id (own (forcedSend a.word)) (on_queue a.id (own (forcedSend a.word))) refl (rw (to_z-of_z b.ranges.caller, to_z-of_z b.ranges.id) at c.before.queue-effect.ensures) c.with-queues.ensures
 
-pub fsnd-dtq-spec : {M : Type 1} → statement M
-fsnd-dtq-spec = tie.close (tie.spec queue-effect-requires with-queues-requires returns)
+pub fsnd_dtq_spec : {M : Type 1} → statement M
+fsnd_dtq_spec = tie.close (tie.spec queue-effect-requires with-queues-requires returns)

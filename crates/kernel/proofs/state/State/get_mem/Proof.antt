@@ -5,9 +5,9 @@ use mir.Syntax.{w32}
 use mir.Val.{to_z, of_z}
 use mir.Facts.{to_z-of_z}
 use Rattle.model.specs.Answers.{result_of}
-use Rattle.model.specs.Images.{Image, image, handOut}
+use Rattle.model.specs.Images.{Image, image, hand_out}
 use Rattle.kernel.specs.View.{view_of}
-use Rattle.kernel.proofs.HandOuts.{part-refused, part-ok}
+use Rattle.kernel.proofs.HandOuts.{part_refused, part_ok}
 use Rattle.kernel.proofs.state.State.get_mem.Statement.{statement}
 use Rattle.kernel.proofs.state.State.get_mem.Tie as tie
 
@@ -31,7 +31,7 @@ abbrev ramOf : tie.Start → Image
 ramOf b = image b.args.bases.ram b.args.ram.now
 
 -- the code of the same inputs, and the same as its words give it back
-coded : (c : tie.After-get-mem-code) → let b = c.before.before.before in let a = b.args in c.get-mem-code.result ≡ result_of (handOut (view_of a.self) a.domain a.base a.size (flashOf b) (ramOf b))
+coded : (c : tie.After-get-mem-code) → let b = c.before.before.before in let a = b.args in c.get-mem-code.result ≡ result_of (hand_out (view_of a.self) a.domain a.base a.size (flashOf b) (ramOf b))
 coded c = rw (to_z-of_z c.before.before.before.ranges.domain) at c.get-mem-code.ensures
 
 sign : (c : tie.After-get-mem-code) → to_z w32 (of_z w32 c.get-mem-code.result) ≡ c.get-mem-code.result
@@ -42,7 +42,7 @@ returns c =
     let p = c.before.before in
     let b = p.before.before.before in
     let a = b.args in
-    part-refused a.self a.domain a.base a.size (flashOf b) (ramOf b) p.get-mem-code.result (coded p) (λ e. c.before.if1.true (ap (of_z w32) e))
+    part_refused a.self a.domain a.base a.size (flashOf b) (ramOf b) p.get-mem-code.result (coded p) (λ e. c.before.if1.true (ap (of_z w32) e))
 
 part-requires : tie.Need-part-requires
 part-requires c κs = search rules
@@ -52,10 +52,10 @@ returns-2 c =
     let p = c.before.before in
     let b = p.before.before.before in
     let a = b.args in
-    c.part.ensures ∙ part-ok a.self a.domain a.base a.size (flashOf b) (ramOf b) p.get-mem-code.result (coded p) (sym (sign p) ∙ ap (to_z w32) c.before.if1.false)
+    c.part.ensures ∙ part_ok a.self a.domain a.base a.size (flashOf b) (ramOf b) p.get-mem-code.result (coded p) (sym (sign p) ∙ ap (to_z w32) c.before.if1.false)
 
-pub get-mem-spec : {M : Type 1} → statement M
-get-mem-spec =
+pub get_mem_spec : {M : Type 1} → statement M
+get_mem_spec =
     tie.close
     (tie.spec
     get-mem-code-requires

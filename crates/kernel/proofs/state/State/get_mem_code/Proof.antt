@@ -6,12 +6,12 @@ use mathlib.Core.Bool.{true}
 use mir.Syntax.{w32}
 use mir.Val.{to_z, of_z}
 use mir.Facts.{to_z-of_z}
-use Rattle.itron.specs.Codes.{okNumber}
+use Rattle.itron.specs.Codes.{ok_number}
 use Rattle.model.specs.Answers.{result_of}
 use Rattle.model.specs.Verdict.{verdict}
-use Rattle.model.specs.Images.{Image, image, imagesOk, readAlone}
+use Rattle.model.specs.Images.{Image, image, images_ok, read_alone}
 use Rattle.kernel.specs.View.{view_of}
-use Rattle.kernel.proofs.HandOuts.{out-ctx, out-par, out-refused, out-noexs, out-ok}
+use Rattle.kernel.proofs.HandOuts.{out_ctx, out_par, out_refused, out_noexs, out_ok}
 use Rattle.kernel.proofs.state.State.get_mem_code.Statement.{statement}
 use Rattle.kernel.proofs.state.State.get_mem_code.Tie as tie
 
@@ -26,7 +26,7 @@ returns : tie.Need-returns
 returns c =
     let b = c.before.before.before.before in
     let a = b.args in
-    out-ctx a.self a.domain a.base a.size (flashOf b) (ramOf b) (not-true a.self.closed c.if1.true)
+    out_ctx a.self a.domain a.base a.size (flashOf b) (ramOf b) (not-true a.self.closed c.if1.true)
 
 are-images-requires : tie.Need-are-images-requires
 are-images-requires c κs = search rules
@@ -39,16 +39,16 @@ returns-2 c =
     let p = c.before.before in
     let b = p.before.before.before.before in
     let a = b.args in
-    out-par a.self a.domain a.base a.size (flashOf b) (ramOf b) (closed p) (sym c.before.are-images.ensures ∙ not-true c.before.are-images.result c.if2.true)
+    out_par a.self a.domain a.base a.size (flashOf b) (ramOf b) (closed p) (sym c.before.are-images.ensures ∙ not-true c.before.are-images.result c.if2.true)
 
 prb-mem-requires : tie.Need-prb-mem-requires
 prb-mem-requires c κs = search rules
 
-lendable : (c : tie.Else2) → let b = c.before.before.before.before.before.before in imagesOk (flashOf b) (ramOf b) ≡ true
+lendable : (c : tie.Else2) → let b = c.before.before.before.before.before.before in images_ok (flashOf b) (ramOf b) ≡ true
 lendable c = sym c.before.are-images.ensures ∙ not-false c.before.are-images.result c.if2.false
 
 -- the verdict's code, and the same as its words give it back
-judged : (c : tie.After-prb-mem) → let a = c.before.before.before.before.before.before.before.args in c.prb-mem.result ≡ result_of (verdict (view_of a.self) a.domain a.base a.size readAlone)
+judged : (c : tie.After-prb-mem) → let a = c.before.before.before.before.before.before.before.args in c.prb-mem.result ≡ result_of (verdict (view_of a.self) a.domain a.base a.size read_alone)
 judged c = let b = c.before.before.before.before.before.before.before in rw (to_z-of_z b.ranges.domain) at c.prb-mem.ensures
 
 sign : (c : tie.After-prb-mem) → to_z w32 (of_z w32 c.prb-mem.result) ≡ c.prb-mem.result
@@ -60,12 +60,12 @@ returns-3 c =
     let q = p.before in
     let b = q.before.before.before.before.before.before in
     let a = b.args in
-    sign p ∙ out-refused a.self a.domain a.base a.size (flashOf b) (ramOf b) (closed q.before.before) (lendable q) p.prb-mem.result (judged p) (λ e. c.if3.true (ap (of_z w32) e))
+    sign p ∙ out_refused a.self a.domain a.base a.size (flashOf b) (ramOf b) (closed q.before.before) (lendable q) p.prb-mem.result (judged p) (λ e. c.if3.true (ap (of_z w32) e))
 
 is-held-requires : tie.Need-is-held-requires
 is-held-requires c κs = search rules
 
-ok : (c : tie.Else3) → c.before.prb-mem.result ≡ okNumber
+ok : (c : tie.Else3) → c.before.prb-mem.result ≡ ok_number
 ok c = sym (sign c.before) ∙ ap (to_z w32) c.if3.false
 
 returns-4 : tie.Need-returns-4
@@ -75,7 +75,7 @@ returns-4 c =
     let q = p.before in
     let b = q.before.before.before.before.before.before in
     let a = b.args in
-    out-noexs a.self a.domain a.base a.size (flashOf b) (ramOf b) (closed q.before.before) (lendable q) p.prb-mem.result (judged p) (ok r) (sym c.before.is_held_lem.ensures ∙ not-true c.before.is_held_lem.result c.if4.true)
+    out_noexs a.self a.domain a.base a.size (flashOf b) (ramOf b) (closed q.before.before) (lendable q) p.prb-mem.result (judged p) (ok r) (sym c.before.is_held_lem.ensures ∙ not-true c.before.is_held_lem.result c.if4.true)
 
 returns-5 : tie.Need-returns-5
 returns-5 c =
@@ -84,10 +84,10 @@ returns-5 c =
     let q = p.before in
     let b = q.before.before.before.before.before.before in
     let a = b.args in
-    out-ok a.self a.domain a.base a.size (flashOf b) (ramOf b) (closed q.before.before) (lendable q) p.prb-mem.result (judged p) (ok r) (sym c.before.is_held_lem.ensures ∙ not-false c.before.is_held_lem.result c.if4.false)
+    out_ok a.self a.domain a.base a.size (flashOf b) (ramOf b) (closed q.before.before) (lendable q) p.prb-mem.result (judged p) (ok r) (sym c.before.is_held_lem.ensures ∙ not-false c.before.is_held_lem.result c.if4.false)
 
-pub get-mem-code-spec : {M : Type 1} → statement M
-get-mem-code-spec =
+pub get_mem_code_spec : {M : Type 1} → statement M
+get_mem_code_spec =
     tie.close
     (tie.spec
     returns

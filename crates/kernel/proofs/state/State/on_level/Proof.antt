@@ -1,7 +1,7 @@
 -- `State::on_level` meets its contract. Assumes nothing.
 use borrow.Author.Rules.{rules}
 use mir.Facts.{to_z-of_z}
-use Rattle.kernel.proofs.Levels.{on-levels}
+use Rattle.kernel.proofs.Levels.{on_levels}
 use Rattle.kernel.proofs.state.State.on_level.Statement.{statement}
 use Rattle.kernel.proofs.state.State.on_level.Tie as tie
 
@@ -12,7 +12,7 @@ with-levels-requires : tie.Need-with-levels-requires
 with-levels-requires c κs = search rules
 
 returns : tie.Need-returns
-returns c = let b = c.before.before in on-levels b.requires b.args.caller b.args.asked (rw (to_z-of_z b.ranges.caller) at c.before.level-effect.ensures) c.with-levels.ensures
+returns c = let b = c.before.before in on_levels b.requires b.args.caller b.args.asked (rw (to_z-of_z b.ranges.caller) at c.before.level-effect.ensures) c.with-levels.ensures
 
-pub on-level-spec : {M : Type 1} → statement M
-on-level-spec = tie.close (tie.spec level-effect-requires with-levels-requires returns)
+pub on_level_spec : {M : Type 1} → statement M
+on_level_spec = tie.close (tie.spec level-effect-requires with-levels-requires returns)

@@ -2,9 +2,9 @@
 use borrow.Author.Rules.{rules}
 use mathlib.Core.Path.{refl}
 use mir.Facts.{to_z-of_z}
-use Rattle.model.specs.Queues.{actOf}
-use Rattle.model.specs.Calls.{onQueue}
-use Rattle.kernel.proofs.Calls.{queues, on-part}
+use Rattle.model.specs.Queues.{act_of}
+use Rattle.model.specs.Calls.{on_queue}
+use Rattle.kernel.proofs.Calls.{queues, on_part}
 use Rattle.kernel.proofs.state.State.on_queue.Statement.{statement}
 use Rattle.kernel.proofs.state.State.on_queue.Tie as tie
 
@@ -18,7 +18,7 @@ returns : tie.Need-returns
 returns c =
     let b = c.before.before in
     let a = b.args in
-    on-part b.requires (queues b.requires) a.caller a.id (actOf a.request) (onQueue a.id (actOf a.request)) refl (rw (to_z-of_z b.ranges.caller, to_z-of_z b.ranges.id) at c.before.queue-effect.ensures) c.with-queues.ensures
+    on_part b.requires (queues b.requires) a.caller a.id (act_of a.request) (on_queue a.id (act_of a.request)) refl (rw (to_z-of_z b.ranges.caller, to_z-of_z b.ranges.id) at c.before.queue-effect.ensures) c.with-queues.ensures
 
-pub on-queue-spec : {M : Type 1} → statement M
-on-queue-spec = tie.close (tie.spec queue-effect-requires with-queues-requires returns)
+pub on_queue_spec : {M : Type 1} → statement M
+on_queue_spec = tie.close (tie.spec queue-effect-requires with-queues-requires returns)

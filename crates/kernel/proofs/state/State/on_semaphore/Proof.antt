@@ -2,9 +2,9 @@
 use borrow.Author.Rules.{rules}
 use mathlib.Core.Path.{refl}
 use mir.Facts.{to_z-of_z}
-use Rattle.model.specs.Semaphores.{actOf}
-use Rattle.model.specs.Calls.{onSemaphore}
-use Rattle.kernel.proofs.Calls.{semaphores, on-part}
+use Rattle.model.specs.Semaphores.{act_of}
+use Rattle.model.specs.Calls.{on_semaphore}
+use Rattle.kernel.proofs.Calls.{semaphores, on_part}
 use Rattle.kernel.proofs.state.State.on_semaphore.Statement.{statement}
 use Rattle.kernel.proofs.state.State.on_semaphore.Tie as tie
 
@@ -18,7 +18,7 @@ returns : tie.Need-returns
 returns c =
     let b = c.before.before in
     let a = b.args in
-    on-part b.requires (semaphores b.requires) a.caller a.id (actOf a.request) (onSemaphore a.id (actOf a.request)) refl (rw (to_z-of_z b.ranges.caller, to_z-of_z b.ranges.id) at c.before.semaphore-effect.ensures) c.with-semaphores.ensures
+    on_part b.requires (semaphores b.requires) a.caller a.id (act_of a.request) (on_semaphore a.id (act_of a.request)) refl (rw (to_z-of_z b.ranges.caller, to_z-of_z b.ranges.id) at c.before.semaphore-effect.ensures) c.with-semaphores.ensures
 
-pub on-semaphore-spec : {M : Type 1} → statement M
-on-semaphore-spec = tie.close (tie.spec semaphore-effect-requires with-semaphores-requires returns)
+pub on_semaphore_spec : {M : Type 1} → statement M
+on_semaphore_spec = tie.close (tie.spec semaphore-effect-requires with-semaphores-requires returns)

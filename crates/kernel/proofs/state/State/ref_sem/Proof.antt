@@ -3,8 +3,8 @@ use borrow.Author.Rules.{rules}
 use mathlib.Core.Path.{refl}
 use mir.Facts.{to_z-of_z}
 use Rattle.model.specs.Acts.{refer}
-use Rattle.model.specs.Calls.{onSemaphore}
-use Rattle.kernel.proofs.Calls.{semaphores, on-part, tells}
+use Rattle.model.specs.Calls.{on_semaphore}
+use Rattle.kernel.proofs.Calls.{semaphores, on_part, tells}
 use Rattle.kernel.proofs.state.State.ref_sem.Statement.{statement}
 use Rattle.kernel.proofs.state.State.ref_sem.Tie as tie
 
@@ -18,7 +18,7 @@ returns : tie.Need-returns
 returns c =
     let b = c.before.before in
     let a = b.args in
-    tells b.requires a.caller (onSemaphore a.id refer) refl (on-part b.requires (semaphores b.requires) a.caller a.id refer (onSemaphore a.id refer) refl (rw (to_z-of_z b.ranges.caller, to_z-of_z b.ranges.id) at c.before.semaphore-effect.ensures) c.with-semaphores.ensures)
+    tells b.requires a.caller (on_semaphore a.id refer) refl (on_part b.requires (semaphores b.requires) a.caller a.id refer (on_semaphore a.id refer) refl (rw (to_z-of_z b.ranges.caller, to_z-of_z b.ranges.id) at c.before.semaphore-effect.ensures) c.with-semaphores.ensures)
 
-pub ref-sem-spec : {M : Type 1} → statement M
-ref-sem-spec = tie.close (tie.spec semaphore-effect-requires with-semaphores-requires returns)
+pub ref_sem_spec : {M : Type 1} → statement M
+ref_sem_spec = tie.close (tie.spec semaphore-effect-requires with-semaphores-requires returns)

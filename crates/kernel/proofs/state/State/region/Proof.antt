@@ -1,14 +1,14 @@
 -- `State::region` meets its contract. Assumes nothing.
 use borrow.Author.Rules.{rules}
-use Rattle.kernel.proofs.Back.{regions-held}
+use Rattle.kernel.proofs.Back.{regions_held}
 use Rattle.kernel.proofs.state.State.region.Statement.{statement}
 use Rattle.kernel.proofs.state.State.region.Tie as tie
 
 region-requires : tie.Need-region-requires
-region-requires c κs = regions-held c.before.requires
+region-requires c κs = regions_held c.before.requires
 
 returns : tie.Need-returns
 returns c = search rules
 
-pub region-spec : {M : Type 1} → statement M
-region-spec = tie.close (tie.spec region-requires returns)
+pub region_spec : {M : Type 1} → statement M
+region_spec = tie.close (tie.spec region-requires returns)

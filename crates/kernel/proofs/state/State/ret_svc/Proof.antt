@@ -2,7 +2,7 @@
 use borrow.Author.Rules.{rules}
 use mir.Facts.{to_z-of_z}
 use Rattle.model.specs.declared.svc.ExtendedCall.TheVariants.{Leave}
-use Rattle.kernel.proofs.Levels.{on-levels}
+use Rattle.kernel.proofs.Levels.{on_levels}
 use Rattle.kernel.proofs.state.State.ret_svc.Statement.{statement}
 use Rattle.kernel.proofs.state.State.ret_svc.Tie as tie
 
@@ -13,7 +13,7 @@ with-levels-requires : tie.Need-with-levels-requires
 with-levels-requires c κs = search rules
 
 returns : tie.Need-returns
-returns c = let b = c.before.before in on-levels b.requires b.args.caller Leave (rw (to_z-of_z b.ranges.caller) at c.before.level-effect.ensures) c.with-levels.ensures
+returns c = let b = c.before.before in on_levels b.requires b.args.caller Leave (rw (to_z-of_z b.ranges.caller) at c.before.level-effect.ensures) c.with-levels.ensures
 
-pub ret-svc-spec : {M : Type 1} → statement M
-ret-svc-spec = tie.close (tie.spec level-effect-requires with-levels-requires returns)
+pub ret_svc_spec : {M : Type 1} → statement M
+ret_svc_spec = tie.close (tie.spec level-effect-requires with-levels-requires returns)

@@ -2,9 +2,9 @@
 use borrow.Author.Rules.{rules}
 use mathlib.Core.Path.{refl}
 use mir.Facts.{to_z-of_z}
-use Rattle.model.specs.Acts.{setVector}
-use Rattle.model.specs.Calls.{onQueue}
-use Rattle.kernel.proofs.Calls.{queues, on-part}
+use Rattle.model.specs.Acts.{set_vector}
+use Rattle.model.specs.Calls.{on_queue}
+use Rattle.kernel.proofs.Calls.{queues, on_part}
 use Rattle.kernel.proofs.state.State.sac_dtq.Statement.{statement}
 use Rattle.kernel.proofs.state.State.sac_dtq.Tie as tie
 
@@ -18,7 +18,7 @@ returns : tie.Need-returns
 returns c =
     let b = c.before.before in
     let a = b.args in
-    on-part b.requires (queues b.requires) a.caller a.id (setVector a.vector) (onQueue a.id (setVector a.vector)) refl (rw (to_z-of_z b.ranges.caller, to_z-of_z b.ranges.id) at c.before.queue-effect.ensures) c.with-queues.ensures
+    on_part b.requires (queues b.requires) a.caller a.id (set_vector a.vector) (on_queue a.id (set_vector a.vector)) refl (rw (to_z-of_z b.ranges.caller, to_z-of_z b.ranges.id) at c.before.queue-effect.ensures) c.with-queues.ensures
 
-pub sac-dtq-spec : {M : Type 1} → statement M
-sac-dtq-spec = tie.close (tie.spec queue-effect-requires with-queues-requires returns)
+pub sac_dtq_spec : {M : Type 1} → statement M
+sac_dtq_spec = tie.close (tie.spec queue-effect-requires with-queues-requires returns)

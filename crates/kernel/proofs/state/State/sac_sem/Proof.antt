@@ -2,9 +2,9 @@
 use borrow.Author.Rules.{rules}
 use mathlib.Core.Path.{refl}
 use mir.Facts.{to_z-of_z}
-use Rattle.model.specs.Acts.{setVector}
-use Rattle.model.specs.Calls.{onSemaphore}
-use Rattle.kernel.proofs.Calls.{semaphores, on-part}
+use Rattle.model.specs.Acts.{set_vector}
+use Rattle.model.specs.Calls.{on_semaphore}
+use Rattle.kernel.proofs.Calls.{semaphores, on_part}
 use Rattle.kernel.proofs.state.State.sac_sem.Statement.{statement}
 use Rattle.kernel.proofs.state.State.sac_sem.Tie as tie
 
@@ -18,7 +18,7 @@ returns : tie.Need-returns
 returns c =
     let b = c.before.before in
     let a = b.args in
-    on-part b.requires (semaphores b.requires) a.caller a.id (setVector a.vector) (onSemaphore a.id (setVector a.vector)) refl (rw (to_z-of_z b.ranges.caller, to_z-of_z b.ranges.id) at c.before.semaphore-effect.ensures) c.with-semaphores.ensures
+    on_part b.requires (semaphores b.requires) a.caller a.id (set_vector a.vector) (on_semaphore a.id (set_vector a.vector)) refl (rw (to_z-of_z b.ranges.caller, to_z-of_z b.ranges.id) at c.before.semaphore-effect.ensures) c.with-semaphores.ensures
 
-pub sac-sem-spec : {M : Type 1} → statement M
-sac-sem-spec = tie.close (tie.spec semaphore-effect-requires with-semaphores-requires returns)
+pub sac_sem_spec : {M : Type 1} → statement M
+sac_sem_spec = tie.close (tie.spec semaphore-effect-requires with-semaphores-requires returns)

@@ -4,18 +4,18 @@ use mathlib.Core.Path.{◌≡◌, refl, sym, ap, ◌∙◌}
 use mir.Facts.{to_z-of_z}
 use Rattle.model.specs.State.{no}
 use Rattle.model.specs.Acts.{clear}
-use Rattle.model.specs.Semaphores.{slots, actOf, room}
+use Rattle.model.specs.Semaphores.{slots, act_of, room}
 use Rattle.model.proofs.Rooms.{own_same}
 use Rattle.semaphore.specs.Effects.{acted}
 use Rattle.kernel.specs.View.{view_of}
-use Rattle.kernel.specs.Inside.{callerIn, checkedBy, checkOf}
-use Rattle.kernel.proofs.Back.{tasks-held, sems-held}
-use Rattle.kernel.proofs.Checks.{check-is, passes}
+use Rattle.kernel.specs.Inside.{caller_in, checked_by, check_of}
+use Rattle.kernel.proofs.Back.{tasks_held, sems_held}
+use Rattle.kernel.proofs.Checks.{check_is, passes}
 use Rattle.kernel.proofs.state.State.semaphore_effect.Statement.{statement}
 use Rattle.kernel.proofs.state.State.semaphore_effect.Tie as tie
 
 find-requires : tie.Need-find-requires
-find-requires c κs = sems-held c.before.before.requires
+find-requires c κs = sems_held c.before.before.requires
 
 operation-requires : tie.Need-operation-requires
 operation-requires c κs = search rules
@@ -24,7 +24,7 @@ check-requires : tie.Need-check-requires
 check-requires c κs = search rules
 
 -- what the checks give
-checks : (c : tie.After-check) → let a = c.before.before.before.before.before.args in checkOf room a.self a.caller a.id (actOf a.request) ≡ c.check.result
+checks : (c : tie.After-check) → let a = c.before.before.before.before.before.args in check_of room a.self a.caller a.id (act_of a.request) ≡ c.check.result
 checks c =
     let b = c.before.before.before.before.before in
     let a = b.args in
@@ -33,16 +33,16 @@ checks c =
     let f = rw (to_z-of_z b.ranges.id) at c.before.before.find.ensures in
     sym
     (rw (to_z-of_z b.ranges.caller) at c.check.ensures
-    ∙ (λ i. checkedBy (callerIn m (no a.caller)) (o i) (f i))
-    ∙ check-is room m (no a.caller) (no a.id) (actOf a.request) (own_same clear (slots m.waits m.sems (no a.id)) (λ c. refl) (actOf a.request)))
+    ∙ (λ i. checked_by (caller_in m (no a.caller)) (o i) (f i))
+    ∙ check_is room m (no a.caller) (no a.id) (act_of a.request) (own_same clear (slots m.waits m.sems (no a.id)) (λ c. refl) (act_of a.request)))
 
 act-requires : tie.Need-act-requires
 act-requires c κs =
     let b = c.before.before.before.before.before in
-    (tasks-held b.requires, sems-held b.requires, passes room b.args.self b.args.caller b.args.id (actOf b.args.request) (checks c))
+    (tasks_held b.requires, sems_held b.requires, passes room b.args.self b.args.caller b.args.id (act_of b.args.request) (checks c))
 
 returns : tie.Need-returns
-returns c = let a = c.before.before.before.before.before.before.args in c.act.ensures ∙ ap (acted a.self.tasks a.self.semaphores (actOf a.request)) (sym (checks c.before))
+returns c = let a = c.before.before.before.before.before.before.args in c.act.ensures ∙ ap (acted a.self.tasks a.self.semaphores (act_of a.request)) (sym (checks c.before))
 
-pub semaphore-effect-spec : {M : Type 1} → statement M
-semaphore-effect-spec = tie.close (tie.spec find-requires operation-requires check-requires act-requires returns)
+pub semaphore_effect_spec : {M : Type 1} → statement M
+semaphore_effect_spec = tie.close (tie.spec find-requires operation-requires check-requires act-requires returns)

@@ -3,9 +3,9 @@ use borrow.Author.Rules.{rules}
 use mathlib.Core.Path.{refl}
 use mir.Facts.{to_z-of_z}
 use Rattle.model.specs.Acts.{own}
-use Rattle.model.specs.Calls.{onSemaphore}
+use Rattle.model.specs.Calls.{on_semaphore}
 use Rattle.model.specs.declared.sem.SemaphoreCall.TheVariants.{Signal as signal}
-use Rattle.kernel.proofs.Calls.{semaphores, on-part}
+use Rattle.kernel.proofs.Calls.{semaphores, on_part}
 use Rattle.kernel.proofs.state.State.sig_sem.Statement.{statement}
 use Rattle.kernel.proofs.state.State.sig_sem.Tie as tie
 
@@ -19,7 +19,7 @@ returns : tie.Need-returns
 returns c =
     let b = c.before.before in
     let a = b.args in
-    on-part b.requires (semaphores b.requires) a.caller a.id (own signal) (onSemaphore a.id (own signal)) refl (rw (to_z-of_z b.ranges.caller, to_z-of_z b.ranges.id) at c.before.semaphore-effect.ensures) c.with-semaphores.ensures
+    on_part b.requires (semaphores b.requires) a.caller a.id (own signal) (on_semaphore a.id (own signal)) refl (rw (to_z-of_z b.ranges.caller, to_z-of_z b.ranges.id) at c.before.semaphore-effect.ensures) c.with-semaphores.ensures
 
-pub sig-sem-spec : {M : Type 1} → statement M
-sig-sem-spec = tie.close (tie.spec semaphore-effect-requires with-semaphores-requires returns)
+pub sig_sem_spec : {M : Type 1} → statement M
+sig_sem_spec = tie.close (tie.spec semaphore-effect-requires with-semaphores-requires returns)

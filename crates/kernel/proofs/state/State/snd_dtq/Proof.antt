@@ -3,10 +3,10 @@ use borrow.Author.Rules.{rules}
 use mathlib.Core.Path.{refl}
 use mir.Facts.{to_z-of_z}
 use Rattle.model.specs.Acts.{own}
-use Rattle.model.specs.Calls.{onQueue}
+use Rattle.model.specs.Calls.{on_queue}
 use Rattle.model.specs.declared.Patience.TheVariants.{Forever}
 use Rattle.model.specs.declared.dtq.QueueCall.TheVariants.{Send as send}
-use Rattle.kernel.proofs.Calls.{queues, on-part}
+use Rattle.kernel.proofs.Calls.{queues, on_part}
 use Rattle.kernel.proofs.state.State.snd_dtq.Statement.{statement}
 use Rattle.kernel.proofs.state.State.snd_dtq.Tie as tie
 
@@ -20,7 +20,7 @@ returns : tie.Need-returns
 returns c =
     let b = c.before.before in
     let a = b.args in
-    on-part b.requires (queues b.requires) a.caller a.id (own (send Forever a.word)) (onQueue a.id (own (send Forever a.word))) refl (rw (to_z-of_z b.ranges.caller, to_z-of_z b.ranges.id) at c.before.queue-effect.ensures) c.with-queues.ensures
+    on_part b.requires (queues b.requires) a.caller a.id (own (send Forever a.word)) (on_queue a.id (own (send Forever a.word))) refl (rw (to_z-of_z b.ranges.caller, to_z-of_z b.ranges.id) at c.before.queue-effect.ensures) c.with-queues.ensures
 
-pub snd-dtq-spec : {M : Type 1} → statement M
-snd-dtq-spec = tie.close (tie.spec queue-effect-requires with-queues-requires returns)
+pub snd_dtq_spec : {M : Type 1} → statement M
+snd_dtq_spec = tie.close (tie.spec queue-effect-requires with-queues-requires returns)

@@ -3,10 +3,10 @@ use borrow.Author.Rules.{rules}
 use mathlib.Core.Path.{refl}
 use mir.Facts.{to_z-of_z}
 use Rattle.model.specs.Acts.{own}
-use Rattle.model.specs.Calls.{onSemaphore}
+use Rattle.model.specs.Calls.{on_semaphore}
 use Rattle.model.specs.declared.Patience.TheVariants.{Forever}
 use Rattle.model.specs.declared.sem.SemaphoreCall.TheVariants.{Acquire as acquire}
-use Rattle.kernel.proofs.Calls.{semaphores, on-part}
+use Rattle.kernel.proofs.Calls.{semaphores, on_part}
 use Rattle.kernel.proofs.state.State.wai_sem.Statement.{statement}
 use Rattle.kernel.proofs.state.State.wai_sem.Tie as tie
 
@@ -20,7 +20,7 @@ returns : tie.Need-returns
 returns c =
     let b = c.before.before in
     let a = b.args in
-    on-part b.requires (semaphores b.requires) a.caller a.id (own (acquire Forever)) (onSemaphore a.id (own (acquire Forever))) refl (rw (to_z-of_z b.ranges.caller, to_z-of_z b.ranges.id) at c.before.semaphore-effect.ensures) c.with-semaphores.ensures
+    on_part b.requires (semaphores b.requires) a.caller a.id (own (acquire Forever)) (on_semaphore a.id (own (acquire Forever))) refl (rw (to_z-of_z b.ranges.caller, to_z-of_z b.ranges.id) at c.before.semaphore-effect.ensures) c.with-semaphores.ensures
 
-pub wai-sem-spec : {M : Type 1} → statement M
-wai-sem-spec = tie.close (tie.spec semaphore-effect-requires with-semaphores-requires returns)
+pub wai_sem_spec : {M : Type 1} → statement M
+wai_sem_spec = tie.close (tie.spec semaphore-effect-requires with-semaphores-requires returns)

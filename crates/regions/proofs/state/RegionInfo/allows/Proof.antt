@@ -50,8 +50,8 @@ returns c =
     let mx = rw f at c.before.may-execute.ensures in
     (λ i. write i && read i && execute i) ∙ (λ i. grants (hw i) (mw i) && grants (hr i) (mr i) && grants (hx i) (mx i))
 
-pub allows-spec : {M : Type 1} → statement M
-allows-spec =
+pub allows_spec : {M : Type 1} → statement M
+allows_spec =
     tie.close
     (tie.spec
     has-requires

@@ -5,7 +5,7 @@ use mathlib.Core.Bool.{◌&&◌}
 use lib.Dec.{eqb}
 use mir.Syntax.{w32}
 use mir.Val.{to_z, of_z}
-use Rattle.access.specs.Domains.{sameDomain}
+use Rattle.access.specs.Domains.{same_domain}
 use Rattle.regions.proofs.state.RegionInfo.equals.Statement.{statement}
 use Rattle.regions.proofs.state.RegionInfo.equals.Tie as tie
 
@@ -21,9 +21,9 @@ returns c =
     let a = b.before.before.before.args in
     let e : to_z w32 (of_z w32 a.self.domain) ≡ a.self.domain = search rules in
     let f : to_z w32 (of_z w32 a.other.domain) ≡ a.other.domain = search rules in
-    let d = b.is_same.ensures ∙ (λ i. sameDomain (e i) (f i)) in
+    let d = b.is_same.ensures ∙ (λ i. same_domain (e i) (f i)) in
     let v = c.equals.ensures in
     λ i. d i && eqb a.self.attribute a.other.attribute && v i
 
-pub equals-spec : {M : Type 1} → statement M
-equals-spec = tie.close (tie.spec is-same-requires equals-requires returns)
+pub equals_spec : {M : Type 1} → statement M
+equals_spec = tie.close (tie.spec is-same-requires equals-requires returns)

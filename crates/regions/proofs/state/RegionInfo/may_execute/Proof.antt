@@ -17,5 +17,5 @@ returns c =
     let m = rw (to_z-of_z c.before.before.ranges.domain) at c.admits.ensures in
     λ i. h i && m i
 
-pub may-execute-spec : {M : Type 1} → statement M
-may-execute-spec = tie.close (tie.spec has-requires admits-requires returns)
+pub may_execute_spec : {M : Type 1} → statement M
+may_execute_spec = tie.close (tie.spec has-requires admits-requires returns)

@@ -10,5 +10,5 @@ admits-requires c κs = search rules
 returns : tie.Need-returns
 returns c = rw (to_z-of_z c.before.ranges.domain) at c.admits.ensures
 
-pub may-read-spec : {M : Type 1} → statement M
-may-read-spec = tie.close (tie.spec admits-requires returns)
+pub may_read_spec : {M : Type 1} → statement M
+may_read_spec = tie.close (tie.spec admits-requires returns)

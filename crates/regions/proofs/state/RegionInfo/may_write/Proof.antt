@@ -17,5 +17,5 @@ returns c =
     let m = rw (to_z-of_z c.before.before.ranges.domain) at c.admits.ensures in
     λ i. not (h i) && m i
 
-pub may-write-spec : {M : Type 1} → statement M
-may-write-spec = tie.close (tie.spec has-requires admits-requires returns)
+pub may_write_spec : {M : Type 1} → statement M
+may_write_spec = tie.close (tie.spec has-requires admits-requires returns)

@@ -15,5 +15,5 @@ cast-result c = search rules
 returns : tie.Need-returns
 returns c = let b = c.before in ap (λ (e : ℕ). eqb e b.before.args.next.base) b.end.ensures
 
-pub touches-spec : {M : Type 1} → statement M
-touches-spec = tie.close (tie.spec end-requires cast-result returns)
+pub touches_spec : {M : Type 1} → statement M
+touches_spec = tie.close (tie.spec end-requires cast-result returns)

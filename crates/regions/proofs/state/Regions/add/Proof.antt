@@ -3,8 +3,8 @@ use borrow.Author.Rules.{rules}
 use native.Mathlib.Omega.{arith}
 use mir.Facts.{to_z-of_z}
 use Rattle.access.specs.declared.vector.Choice.TheVariants.{Given}
-use Rattle.model.specs.Regions.{newRegion}
-use Rattle.regions.proofs.Cells.{count_of, enter-link}
+use Rattle.model.specs.Regions.{new_region}
+use Rattle.regions.proofs.Cells.{count_of, enter_link}
 use Rattle.regions.proofs.state.Regions.add.Statement.{statement}
 use Rattle.regions.proofs.state.Regions.add.Tie as tie
 
@@ -32,7 +32,7 @@ add-self c = search rules
 returns : tie.Need-returns
 returns c =
     let a = c.args in
-    rw (to_z-of_z c.ranges.domain) (enter-link c.requires.0 (newRegion a.domain a.attribute a.base a.size (Given a.vector)) c.requires.1)
+    rw (to_z-of_z c.ranges.domain) (enter_link c.requires.0 (new_region a.domain a.attribute a.base a.size (Given a.vector)) c.requires.1)
 
 pub add_spec : {M : Type 1} → statement M
 add_spec =

@@ -1,7 +1,7 @@
 -- `Regions::at` meets its contract: the three cells of an index are its region. Assumes nothing.
 use borrow.Author.Rules.{rules}
 use mathlib.Core.Path.{◌∙◌}
-use Rattle.regions.proofs.Cells.{region-at}
+use Rattle.regions.proofs.Cells.{region_at}
 use Rattle.regions.proofs.state.Regions.at.Statement.{statement}
 use Rattle.regions.proofs.state.Regions.at.Tie as tie
 
@@ -27,10 +27,10 @@ of-requires : tie.Need-of-requires
 of-requires c κs = search rules
 
 returns : tie.Need-returns
-returns c = let s = c.before.before.before.before in c.of.ensures ∙ region-at s.requires.0 s.args.index
+returns c = let s = c.before.before.before.before in c.of.ensures ∙ region_at s.requires.0 s.args.index
 
-pub at-spec : {M : Type 1} → statement M
-at-spec =
+pub at_spec : {M : Type 1} → statement M
+at_spec =
     tie.close
     (tie.spec
     mul-protection

@@ -5,9 +5,9 @@ use mathlib.Core.Bool.{Bool, ◌&&◌}
 use lib.Dec.{leb}
 use borrow.Author.Tests.{not-true, not-false}
 use Rattle.model.specs.Answers.{result_of}
-use Rattle.model.proofs.Units.{unit-pos}
-use Rattle.regions.specs.View.{regionsOf}
-use Rattle.regions.specs.Entries.{entryCheck}
+use Rattle.model.proofs.Units.{unit_pos}
+use Rattle.regions.specs.View.{regions_of}
+use Rattle.regions.specs.Entries.{entry_check}
 use Rattle.regions.proofs.Checks.{enters}
 use Rattle.regions.proofs.state.Regions.check.Statement.{statement}
 use Rattle.regions.proofs.state.Regions.check.Tie as tie
@@ -19,7 +19,7 @@ is-area-requires : tie.Need-is-area-requires
 is-area-requires c κs = search rules
 
 is-whole-requires : tie.Need-is-whole-requires
-is-whole-requires c κs = let b = c.before.before in unit-pos b.args.self.unit b.requires.power
+is-whole-requires c κs = let b = c.before.before in unit_pos b.args.self.unit b.requires.power
 
 last-end-requires : tie.Need-last-end-requires
 last-end-requires c κs = search rules
@@ -33,7 +33,7 @@ fits c = c.before.before.is-area.result && c.before.is_whole.result
 
 -- the ladder, by these and by the place
 ladder : (c : tie.After-last-end) → let a = c.before.before.before.before.args in
-    enters (known c) (fits c) (leb c.last-end.result a.base) ≡ result_of (entryCheck a.self.unit (regionsOf a.self) a.attribute a.base a.size)
+    enters (known c) (fits c) (leb c.last-end.result a.base) ≡ result_of (entry_check a.self.unit (regions_of a.self) a.attribute a.base a.size)
 ladder c =
     let a = c.before.before.before.before.args in
     let p = c.before.before.before.is-attribute.ensures in
@@ -62,8 +62,8 @@ returns-4 c =
     let a = p.before.before.before.before.args in
     rw (not-false (known p) c.before.before.if1.false, not-false (fits p) c.before.if2.false, not-false (leb p.last-end.result a.base) c.if3.false) at (ladder p)
 
-pub check-spec : {M : Type 1} → statement M
-check-spec =
+pub check_spec : {M : Type 1} → statement M
+check_spec =
     tie.close
     (tie.spec
     is-attribute-requires

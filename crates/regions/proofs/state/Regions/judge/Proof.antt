@@ -10,12 +10,12 @@ use borrow.Author.Tests.{not-true, not-false}
 use mir.Syntax.{w32}
 use mir.Val.{to_z, of_z}
 use mir.Facts.{to_z-of_z}
-use Rattle.model.specs.Regions.{areaOk, fromHolder, judge}
-use Rattle.regions.specs.View.{regionsOf}
+use Rattle.model.specs.Regions.{area_ok, from_holder, judge}
+use Rattle.regions.specs.View.{regions_of}
 use Rattle.regions.specs.declared.search.Found.TheVariants.{At}
 use Rattle.regions.specs.Search.{lookup, found_from}
-use Rattle.regions.proofs.Cells.{region-at}
-use Rattle.regions.proofs.Searches.{lookup-low, finds-holder, is-nothing}
+use Rattle.regions.proofs.Cells.{region_at}
+use Rattle.regions.proofs.Searches.{lookup_low, finds_holder, is_nothing}
 use Rattle.regions.proofs.OneRegion.{in_order}
 use Rattle.regions.proofs.Checks.{rules}
 use Rattle.regions.proofs.state.Regions.judge.Statement.{statement}
@@ -29,7 +29,7 @@ unfolding judge
 returns c =
     let a = c.before.before.args in
     let e = sym (not-true c.before.is-request.result c.if1.taken) ∙ c.before.is-request.ensures in
-    λ i. rules a.domain a.base a.size a.wishes (e i) (fromHolder (regionsOf a.t1) a.base)
+    λ i. rules a.domain a.base a.size a.wishes (e i) (from_holder (regions_of a.t1) a.base)
 
 find-requires : tie.Need-find-requires
 find-requires c κs = let o = in_order c.before.before.before.before.before.before.before.pre in (search rules, search rules, o)
@@ -38,7 +38,7 @@ enum-known-index : tie.Need-enum-known-index
 enum-known-index c = search rules
 
 -- the area and the wishes passed
-asked : (c : tie.Else1) → let a = c.before.before.args in true ≡ areaOk a.base a.size a.wishes
+asked : (c : tie.Else1) → let a = c.before.before.args in true ≡ area_ok a.base a.size a.wishes
 asked c = sym (not-false c.before.is-request.result c.if1.left) ∙ c.before.is-request.ensures
 
 -- the region that was found
@@ -49,7 +49,7 @@ found c = sym c.before.before.find.ensures ∙ c.index.given.1
 low : (c : tie.After-index) → let a = c.before.before.before.before.before.before.before.before.before.before.args in c.index.given.0.0 < a.t1.count
 low c =
     let a = c.before.before.before.before.before.before.before.before.before.before.args in
-    let l = lookup-low a.t1.bases a.t1.sizes a.base a.t1.count 0 c.index.given.0.0 (found c) in
+    let l = lookup_low a.t1.bases a.t1.sizes a.base a.t1.count 0 c.index.given.0.0 (found c) in
     omega arith
 
 mul-protection : tie.Need-mul-protection
@@ -77,7 +77,7 @@ judge-at-requires : tie.Need-judge-at-requires
 judge-at-requires c κs =
     let x = c.before.before.before.before.before in
     let s = x.before.before.before.before.before.before.before.before.before.before in
-    record { held = s.pre; low = low x; same = c.of.ensures ∙ region-at s.pre x.index.given.0.0 }
+    record { held = s.pre; low = low x; same = c.of.ensures ∙ region_at s.pre x.index.given.0.0 }
 
 enum_told : tie.Need-enum-told
 enum_told c = search rules
@@ -89,10 +89,10 @@ returns-2 c =
     let q = x.before.before.before.before.before.before.before.before in
     let s = q.before.before in
     let a = s.args in
-    let rs = regionsOf a.t1 in
+    let rs = regions_of a.t1 in
     let e : to_z w32 (of_z w32 c.judge-at.result) ≡ c.judge-at.result = search rules in
     let t = asked q in
-    let o : fromHolder rs a.base ≡ drop x.index.given.0.0 rs = finds-holder s.pre a.base ∙ ap (found_from rs) (found x) in
+    let o : from_holder rs a.base ≡ drop x.index.given.0.0 rs = finds_holder s.pre a.base ∙ ap (found_from rs) (found x) in
     e ∙ rw (to_z-of_z s.fits.domain) at c.judge-at.ensures ∙ (λ i. rules a.domain a.base a.size a.wishes (t i) (sym o i))
 
 returns-3 : tie.Need-returns-3
@@ -102,13 +102,13 @@ returns-3 c =
     let q = f.before.before.before.before.before.before in
     let s = q.before.before in
     let a = s.args in
-    let rs = regionsOf a.t1 in
+    let rs = regions_of a.t1 in
     let t = asked q in
-    let o : fromHolder rs a.base ≡ [] = finds-holder s.pre a.base ∙ ap (found_from rs) (sym f.find.ensures ∙ is-nothing f.find.result c.before.match.keys2) in
+    let o : from_holder rs a.base ≡ [] = finds_holder s.pre a.base ∙ ap (found_from rs) (sym f.find.ensures ∙ is_nothing f.find.result c.before.match.keys2) in
     λ i. rules a.domain a.base a.size a.wishes (t i) (sym o i)
 
-pub judge-spec : {M : Type 1} → statement M
-judge-spec =
+pub judge_spec : {M : Type 1} → statement M
+judge_spec =
     tie.close
     (tie.spec
     is-request-requires

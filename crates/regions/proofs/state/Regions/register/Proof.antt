@@ -4,8 +4,8 @@ use mathlib.Core.Path.{◌≡◌, ◌∙◌}
 use mathlib.Core.List.{[], ◌∷◌, ◌++◌}
 use mir.Syntax.{w32}
 use mir.Val.{to_z, of_z}
-use Rattle.regions.specs.View.{regionsOf}
-use Rattle.regions.specs.Form.{regionsAs}
+use Rattle.regions.specs.View.{regions_of}
+use Rattle.regions.specs.Form.{regions_as}
 use Rattle.regions.proofs.state.Regions.register.Statement.{statement}
 use Rattle.regions.proofs.state.Regions.register.Tie as tie
 
@@ -25,7 +25,7 @@ returns c =
     let a = q.before.before.args in
     let d = sign q.before in
     let r = rw d at q.resolve.ensures in
-    c.add.ensures ∙ (λ i. regionsAs a.self.unit (regionsOf a.self ++ (record { domain = d i; attribute = a.given.attribute; base = a.given.base; size = a.given.size; vector = r i } ∷ [])))
+    c.add.ensures ∙ (λ i. regions_as a.self.unit (regions_of a.self ++ (record { domain = d i; attribute = a.given.attribute; base = a.given.base; size = a.given.size; vector = r i } ∷ [])))
 
-pub register-spec : {M : Type 1} → statement M
-register-spec = tie.close (tie.spec resolve-requires add-requires returns)
+pub register_spec : {M : Type 1} → statement M
+register_spec = tie.close (tie.spec resolve-requires add-requires returns)

@@ -4,8 +4,8 @@ use mathlib.Core.Path.{◌≡◌, ◌∙◌}
 use mathlib.Core.List.{[], ◌∷◌, ◌++◌}
 use mir.Syntax.{w32}
 use mir.Val.{to_z, of_z}
-use Rattle.semaphore.specs.View.{semsOf}
-use Rattle.semaphore.specs.Form.{semsAs}
+use Rattle.semaphore.specs.View.{sems_of}
+use Rattle.semaphore.specs.Form.{sems_as}
 use Rattle.semaphore.proofs.state.Semaphores.register.Statement.{statement}
 use Rattle.semaphore.proofs.state.Semaphores.register.Tie as tie
 
@@ -25,7 +25,7 @@ returns c =
     let a = q.before.before.args in
     let d = sign q.before in
     let r = rw d at q.resolve.ensures in
-    c.add.ensures ∙ (λ i. semsAs (semsOf a.self ++ (record { domain = d i; attribute = a.given.attribute; max = a.given.max; count = a.given.start; vector = r i } ∷ [])))
+    c.add.ensures ∙ (λ i. sems_as (sems_of a.self ++ (record { domain = d i; attribute = a.given.attribute; max = a.given.max; count = a.given.start; vector = r i } ∷ [])))
 
-pub register-spec : {M : Type 1} → statement M
-register-spec = tie.close (tie.spec resolve-requires add-requires returns)
+pub register_spec : {M : Type 1} → statement M
+register_spec = tie.close (tie.spec resolve-requires add-requires returns)

@@ -22,6 +22,6 @@ returns-2 c = search rules
 returns-3 : tie.Need-returns-3
 returns-3 c = search rules
 
-pub flushed-spec : {M : Type 1} → statement M
-flushed-spec =
+pub flushed_spec : {M : Type 1} → statement M
+flushed_spec =
     tie.close (tie.spec returns slice-aggregate-write-all write-all-requires returns-2 returns-3)

@@ -12,5 +12,5 @@ returns-2 c = rw (ne_eqb _ _ c.before.before.if1.false, lt-ltb _ _ c.if2.true)
 returns-3 : tie.Need-returns-3
 returns-3 c = rw (ne_eqb _ _ c.before.before.if1.false, le-ltb _ _ c.if2.false)
 
-pub against-spec : {M : Type 1} → statement M
-against-spec = tie.close (tie.spec returns returns-2 returns-3)
+pub against_spec : {M : Type 1} → statement M
+against_spec = tie.close (tie.spec returns returns-2 returns-3)

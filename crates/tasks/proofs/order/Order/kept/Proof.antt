@@ -16,5 +16,5 @@ add-self c = search rules
 returns-2 : tie.Need-returns-2
 returns-2 c = rw (ne_eqb _ _ c.if1.false)
 
-pub kept-spec : {M : Type 1} → statement M
-kept-spec = tie.close (tie.spec returns element-write-self add-self returns-2)
+pub kept_spec : {M : Type 1} → statement M
+kept_spec = tie.close (tie.spec returns element-write-self add-self returns-2)

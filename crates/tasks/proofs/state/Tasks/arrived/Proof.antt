@@ -6,29 +6,29 @@ use mathlib.Core.Path.{◌≡◌, refl, sym, ap, ◌∙◌}
 use mathlib.Core.Logic.{⊎_elim}
 use mathlib.Core.List.{List, []}
 use lib.ListN.{length, get_or}
-use Rattle.itron.specs.Limits.{maxTasks}
+use Rattle.itron.specs.Limits.{max_tasks}
 use Rattle.model.specs.State.{place}
-use Rattle.tasks.specs.View.{waitsOf}
-use Rattle.tasks.proofs.Back.{order-low}
-use Rattle.tasks.proofs.Waiters.{numbersFrom, none_left, pass, found, count-off}
+use Rattle.tasks.specs.View.{waits_of}
+use Rattle.tasks.proofs.Back.{order_low}
+use Rattle.tasks.proofs.Waiters.{numbers_from, none_left, pass, found, count_off}
 use Rattle.tasks.proofs.state.Tasks.arrived.Statement.{statement}
 use Rattle.tasks.proofs.state.Tasks.arrived.Tie as tie
 
 abbrev invariant-loop : tie.invariant-loop
 invariant-loop side object k waiting entries order ahead₀ i₀ ahead i =
-    (i ≤ waiting) × (waiting ≤ maxTasks)
-    × (get_or (numbersFrom entries (place side (suc object)) order waiting 0) k 0 ≡ get_or (numbersFrom entries (place side (suc object)) order waiting i) ahead 0)
+    (i ≤ waiting) × (waiting ≤ max_tasks)
+    × (get_or (numbers_from entries (place side (suc object)) order waiting 0) k 0 ≡ get_or (numbers_from entries (place side (suc object)) order waiting i) ahead 0)
 
 abbrev decreases-loop : tie.decreases-loop
 decreases-loop side object k waiting entries order ahead₀ i₀ ahead i = waiting - i
 
 -- nobody waits
 returns : tie.Need-returns invariant-loop decreases-loop
-unfolding waitsOf
+unfolding waits_of
 returns c =
     let a = c.before.args in
     let p = place a.side (suc a.object) in
-    let n = numbersFrom a.self.entries p a.self.order a.self.waiting in
+    let n = numbers_from a.self.entries p a.self.order a.self.waiting in
     let e : n 0 ≡ [] = ap n (sym c.if1.true) ∙ none_left a.self.entries p a.self.order a.self.waiting in
     sym (ap (λ (m : List ℕ). get_or m a.k 0) e)
 
@@ -42,10 +42,10 @@ cast-task : tie.Need-overflow-cast-task invariant-loop decreases-loop
 cast-task c = search rules
 
 -- who waits is a task
-low : (c : tie.In-loop invariant-loop decreases-loop) → get_or c.before.before.before.before.before.args.self.order c.before.loop.i 0 < maxTasks
+low : (c : tie.In-loop invariant-loop decreases-loop) → get_or c.before.before.before.before.before.args.self.order c.before.loop.i 0 < max_tasks
 low c =
     let h = c.before.before.before.before.before.requires in
-    let l = order-low h c.before.loop.i (omega arith) in
+    let l = order_low h c.before.loop.i (omega arith) in
     let m = h.fit.tasks in
     omega arith
 
@@ -62,12 +62,12 @@ add-result : tie.Need-overflow-add-result invariant-loop decreases-loop
 add-result c = let l = low c.before.before.before.before in omega arith
 
 returns-2 : tie.Need-returns-2 invariant-loop decreases-loop
-unfolding waitsOf
+unfolding waits_of
 returns-2 c =
     let b = c.before.before.before.before in
     let a = b.before.before.before.before.before.args in
     let v = b.before.loop.invariant in
-    let l : length a.self.order ≡ maxTasks = search rules in
+    let l : length a.self.order ≡ max_tasks = search rules in
     sym (v.2 ∙ found a.self.entries (place a.side (suc a.object)) a.self.order a.self.waiting b.before.loop.i (omega arith) (omega arith) (cc) b.before.loop.ahead c.if3.true)
 
 sub-ahead : tie.Need-overflow-sub-ahead invariant-loop decreases-loop
@@ -87,25 +87,25 @@ loop-again c =
     let i = b.before.loop.i in
     let k = b.before.loop.ahead in
     let p = place a.side (suc a.object) in
-    let l : length a.self.order ≡ maxTasks = search rules in (
+    let l : length a.self.order ≡ max_tasks = search rules in (
       omega arith,
       omega arith,
-      v.2 ∙ ⊎_elim (λ w. count-off a.self.entries p a.self.order a.self.waiting i (omega arith) (omega arith) (cc) k w.1.left ∙ ap (λ (n : ℕ). get_or (numbersFrom a.self.entries p a.self.order a.self.waiting (i + 1)) n 0) (sym w.2))
+      v.2 ∙ ⊎_elim (λ w. count_off a.self.entries p a.self.order a.self.waiting i (omega arith) (omega arith) (cc) k w.1.left ∙ ap (λ (n : ℕ). get_or (numbers_from a.self.entries p a.self.order a.self.waiting (i + 1)) n 0) (sym w.2))
           (λ w. let e = pass a.self.entries p a.self.order a.self.waiting i (omega arith) (omega arith) (cc) in λ j. get_or (e j) (sym w.1 j) 0)
           c.if2.branch,
     )
 
 returns-3 : tie.Need-returns-3 invariant-loop decreases-loop
-unfolding waitsOf
+unfolding waits_of
 returns-3 c =
     let a = c.before.before.before.before.before.args in
     let v = c.before.loop.invariant in
     let n : c.before.loop.i ≡ a.self.waiting = omega arith in
-    sym (v.2 ∙ ap (λ (j : ℕ). get_or (numbersFrom a.self.entries (place a.side (suc a.object)) a.self.order a.self.waiting j) c.before.loop.ahead 0) n
+    sym (v.2 ∙ ap (λ (j : ℕ). get_or (numbers_from a.self.entries (place a.side (suc a.object)) a.self.order a.self.waiting j) c.before.loop.ahead 0) n
     ∙ ap (λ (m : List ℕ). get_or m c.before.loop.ahead 0) (none_left a.self.entries (place a.side (suc a.object)) a.self.order a.self.waiting))
 
-pub arrived-spec : {M : Type 1} → statement M
-arrived-spec =
+pub arrived_spec : {M : Type 1} → statement M
+arrived_spec =
     tie.close
     (tie.spec
     invariant-loop

@@ -7,12 +7,12 @@ use mir.Syntax.{w32}
 use mir.Val.{to_z, of_z}
 use mir.Facts.{to_z-of_z}
 use lib.ListN.{get_or}
-use Rattle.access.specs.Domains.{ordinalOf}
-use Rattle.access.proofs.Ordinals.{ordinal-le}
+use Rattle.access.specs.Domains.{ordinal_of}
+use Rattle.access.proofs.Ordinals.{ordinal_le}
 use Rattle.tasks.specs.declared.wait.Caller.TheVariants as Caller
-use Rattle.tasks.specs.View.{noTask}
+use Rattle.tasks.specs.View.{no_task}
 use Rattle.tasks.proofs.Places.{idle, busy}
-use Rattle.tasks.proofs.Callers.{caller-none, caller-busy, caller-ready}
+use Rattle.tasks.proofs.Callers.{caller_none, caller_busy, caller_ready}
 use Rattle.tasks.proofs.state.Tasks.caller.Statement.{statement}
 use Rattle.tasks.proofs.state.Tasks.caller.Tie as tie
 
@@ -20,20 +20,20 @@ ordinal-requires : tie.Need-ordinal-requires
 ordinal-requires c κs = search rules
 
 -- the caller's number
-number : (c : tie.After-ordinal) → c.ordinal.result ≡ ordinalOf c.before.args.number c.before.args.t1.count
+number : (c : tie.After-ordinal) → c.ordinal.result ≡ ordinal_of c.before.args.number c.before.args.t1.count
 number c = rw (to_z-of_z c.before.ranges.number) at c.ordinal.ensures
 
 returns : tie.Need-returns
-returns c = let p = c.before in caller-none p.before.requires p.before.args.number (sym (number p) ∙ c.if1.true)
+returns c = let p = c.before in caller_none p.before.requires p.before.args.number (sym (number p) ∙ c.if1.true)
 
 sub-task : tie.Need-overflow-sub-task
 sub-task c = search rules
 
 mul-entry : tie.Need-overflow-mul-entry
-mul-entry c = let a = c.before.before in omega (arith, number c.before, ordinal-le a.args.number a.args.t1.count, a.requires.few)
+mul-entry c = let a = c.before.before in omega (arith, number c.before, ordinal_le a.args.number a.args.t1.count, a.requires.few)
 
 element-copy-out-entry : tie.Need-element-copy-out-entry
-element-copy-out-entry c = let a = c.before.before in omega (arith, number c.before, ordinal-le a.args.number a.args.t1.count, a.requires.few)
+element-copy-out-entry c = let a = c.before.before in omega (arith, number c.before, ordinal_le a.args.number a.args.t1.count, a.requires.few)
 
 enum_told : tie.Need-enum-told
 enum_told c = search rules
@@ -49,16 +49,16 @@ returns-2 c =
     let s = b.args.t1 in
     let e : to_z w32 (of_z w32 c.domain.result) ≡ c.domain.result = search rules in
     ap (Caller.Ready (p.ordinal.result - 1)) (e ∙ c.domain.ensures)
-    ∙ caller-ready b.requires b.args.number p.ordinal.result (number p) m.before.before.if1.false (idle (get_or s.entries (p.ordinal.result - 1) noTask).wait m.match.keys1)
+    ∙ caller_ready b.requires b.args.number p.ordinal.result (number p) m.before.before.if1.false (idle (get_or s.entries (p.ordinal.result - 1) no_task).wait m.match.keys1)
 
 returns-3 : tie.Need-returns-3
 returns-3 c =
     let p = c.before.before.before in
     let b = p.before in
-    caller-busy b.requires b.args.number p.ordinal.result (number p) c.before.before.if1.false (busy (get_or b.args.t1.entries (p.ordinal.result - 1) noTask).wait c.match.keys2)
+    caller_busy b.requires b.args.number p.ordinal.result (number p) c.before.before.if1.false (busy (get_or b.args.t1.entries (p.ordinal.result - 1) no_task).wait c.match.keys2)
 
-pub caller-spec : {M : Type 1} → statement M
-caller-spec =
+pub caller_spec : {M : Type 1} → statement M
+caller_spec =
     tie.close
     (tie.spec
     ordinal-requires

@@ -1,12 +1,12 @@
 -- `Tasks::empty` meets its contract. Assumes nothing.
 use mathlib.Core.Path.{refl}
-use Rattle.tasks.specs.Form.{tasksAs}
+use Rattle.tasks.specs.Form.{tasks_as}
 use Rattle.tasks.proofs.state.Tasks.empty.Statement.{statement}
 use Rattle.tasks.proofs.state.Tasks.empty.Tie as tie
 
 returns : tie.Need-returns
-unfolding tasksAs
+unfolding tasks_as
 returns c = refl
 
-pub empty-spec : {M : Type 1} → statement M
-empty-spec = tie.close (tie.spec returns)
+pub empty_spec : {M : Type 1} → statement M
+empty_spec = tie.close (tie.spec returns)

@@ -3,10 +3,10 @@ use borrow.Author.Rules.{rules}
 use Prim.Native.Nat.{suc, ◌-◌, ◌<◌}
 use native.Mathlib.Omega.{arith}
 use mathlib.Core.Path.{ap, ◌∙◌}
-use Rattle.itron.specs.Limits.{maxTasks}
+use Rattle.itron.specs.Limits.{max_tasks}
 use Rattle.model.specs.State.{place}
 use Rattle.tasks.specs.declared.wait.First.TheVariants.{Waiter}
-use Rattle.tasks.proofs.Firsts.{first-none, first_found, first-low}
+use Rattle.tasks.proofs.Firsts.{first_none, first_found, first_low}
 use Rattle.tasks.proofs.state.Tasks.first.Statement.{statement}
 use Rattle.tasks.proofs.state.Tasks.first.Tie as tie
 
@@ -17,17 +17,17 @@ returns : tie.Need-returns
 returns c =
     let p = c.before in
     let a = p.before.args in
-    first-none p.before.requires a.«by-priority» (place a.side (suc a.object)) p.first-number.result p.first-number.ensures c.if1.true
+    first_none p.before.requires a.«by-priority» (place a.side (suc a.object)) p.first-number.result p.first-number.ensures c.if1.true
 
 sub-task : tie.Need-overflow-sub-task
 sub-task c = search rules
 
 -- who waits is a task
-low : (c : tie.Else1) → c.before.first-number.result - 1 < maxTasks
+low : (c : tie.Else1) → c.before.first-number.result - 1 < max_tasks
 low c =
     let p = c.before in
     let a = p.before.args in
-    let l = first-low p.before.requires a.«by-priority» (place a.side (suc a.object)) p.first-number.result p.first-number.ensures c.if1.false in
+    let l = first_low p.before.requires a.«by-priority» (place a.side (suc a.object)) p.first-number.result p.first-number.ensures c.if1.false in
     let m = p.before.requires.fit.tasks in
     omega arith
 

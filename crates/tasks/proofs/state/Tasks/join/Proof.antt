@@ -1,6 +1,6 @@
 -- `Tasks::join` meets its contract. Assumes nothing.
 use borrow.Author.Rules.{rules}
-use Rattle.tasks.proofs.Changes.{join-link, join-room}
+use Rattle.tasks.proofs.Changes.{join_link, join_room}
 use Rattle.tasks.proofs.state.Tasks.join.Statement.{statement}
 use Rattle.tasks.proofs.state.Tasks.join.Tie as tie
 
@@ -8,7 +8,7 @@ cast-self : tie.Need-overflow-cast-self
 cast-self c = search rules
 
 element-write-self : tie.Need-element-write-self
-element-write-self c = join-room c.requires.0 c.args.task c.requires.1
+element-write-self c = join_room c.requires.0 c.args.task c.requires.1
 
 mul-old : tie.Need-overflow-mul-old
 mul-old c = search rules
@@ -32,10 +32,10 @@ returns : tie.Need-returns
 returns c =
     let a = c.before.before.args in
     let p = c.before.before.requires in
-    join-link p.0 a.task a.wait c.with-wait.result p.1 p.2 c.with-wait.ensures
+    join_link p.0 a.task a.wait c.with-wait.result p.1 p.2 c.with-wait.ensures
 
-pub join-spec : {M : Type 1} → statement M
-join-spec =
+pub join_spec : {M : Type 1} → statement M
+join_spec =
     tie.close
     (tie.spec
     cast-self element-write-self

@@ -1,6 +1,6 @@
 -- `Tasks::release` meets its contract. Assumes nothing.
 use borrow.Author.Rules.{rules}
-use Rattle.tasks.proofs.Changes.{release-link}
+use Rattle.tasks.proofs.Changes.{release_link}
 use Rattle.tasks.proofs.state.Tasks.release.Statement.{statement}
 use Rattle.tasks.proofs.state.Tasks.release.Tie as tie
 
@@ -29,7 +29,7 @@ returns : tie.Need-returns
 returns c =
     let b = c.before.before.before.before.before in
     let w = c.before.before.before in
-    release-link b.requires.0 b.args.task c.with-wait.result w.without.result b.requires.1 c.with-wait.ensures w.without.ensures
+    release_link b.requires.0 b.args.task c.with-wait.result w.without.result b.requires.1 c.with-wait.ensures w.without.ensures
 
 pub release_spec : {M : Type 1} → statement M
 release_spec =

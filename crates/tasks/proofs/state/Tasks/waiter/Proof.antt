@@ -6,8 +6,8 @@ use mathlib.Core.Bool.{Bool}
 use mathlib.Core.List.{map}
 use lib.ListN.{get_or}
 use Rattle.model.specs.State.{place}
-use Rattle.tasks.specs.Ends.{taskIn}
-use Rattle.tasks.proofs.Firsts.{queueAt}
+use Rattle.tasks.specs.Ends.{task_in}
+use Rattle.tasks.proofs.Firsts.{queue_at}
 use Rattle.tasks.proofs.state.Tasks.waiter.Statement.{statement}
 use Rattle.tasks.proofs.state.Tasks.waiter.Tie as tie
 
@@ -17,7 +17,7 @@ ranked-requires c κs = search rules
 returns : tie.Need-returns
 returns c =
     let a = c.before.before.args in
-    c.ranked.ensures ∙ ap (λ (b : Bool). get_or (map taskIn (queueAt a.self b (place a.side (suc a.object)))) a.k 0) (sym c.before.if1.true)
+    c.ranked.ensures ∙ ap (λ (b : Bool). get_or (map task_in (queue_at a.self b (place a.side (suc a.object)))) a.k 0) (sym c.before.if1.true)
 
 arrived-requires : tie.Need-arrived-requires
 arrived-requires c κs = search rules
@@ -25,8 +25,8 @@ arrived-requires c κs = search rules
 returns-2 : tie.Need-returns-2
 returns-2 c =
     let a = c.before.before.args in
-    c.arrived.ensures ∙ ap (λ (b : Bool). get_or (map taskIn (queueAt a.self b (place a.side (suc a.object)))) a.k 0) (sym c.before.if1.false)
+    c.arrived.ensures ∙ ap (λ (b : Bool). get_or (map task_in (queue_at a.self b (place a.side (suc a.object)))) a.k 0) (sym c.before.if1.false)
 
-pub waiter-spec : {M : Type 1} → statement M
-waiter-spec =
+pub waiter_spec : {M : Type 1} → statement M
+waiter_spec =
     tie.close (tie.spec ranked-requires returns arrived-requires returns-2)

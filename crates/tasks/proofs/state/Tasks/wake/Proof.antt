@@ -3,7 +3,7 @@ use borrow.Author.Rules.{rules}
 use Prim.Native.Nat.{suc, ◌+◌}
 use native.Mathlib.Omega.{arith}
 use mathlib.Core.Path.{◌≡◌}
-use Rattle.itron.specs.Codes.{okNumber}
+use Rattle.itron.specs.Codes.{ok_number}
 use Rattle.model.specs.declared.Outcome.TheVariants.{Code}
 use Rattle.tasks.proofs.Ends.{ended}
 use Rattle.tasks.proofs.state.Tasks.wake.Statement.{statement}
@@ -20,7 +20,7 @@ returns c =
     let a = c.before.args in
     let n : a.task + 1 ≡ suc a.task = omega arith in
     let e = c.release.ensures in
-    λ i. ended (record { outcome = Code okNumber; word = a.word; released = record { task = n i; word = a.handed } }) (e i)
+    λ i. ended (record { outcome = Code ok_number; word = a.word; released = record { task = n i; word = a.handed } }) (e i)
 
-pub wake-spec : {M : Type 1} → statement M
-wake-spec = tie.close (tie.spec add-number release-requires returns)
+pub wake_spec : {M : Type 1} → statement M
+wake_spec = tie.close (tie.spec add-number release-requires returns)

@@ -16,5 +16,5 @@ cast-result c = rw (to_z-of_z (small c)) (sfits_widen tt (small c))
 returns : tie.Need-returns
 returns c = rw (to_z-of_z (small c)) (to_z-of_z (sfits_widen tt (small c)))
 
-pub domain-spec : {M : Type 1} → statement M
-domain-spec = tie.close (tie.spec cast-result returns)
+pub domain_spec : {M : Type 1} → statement M
+domain_spec = tie.close (tie.spec cast-result returns)
