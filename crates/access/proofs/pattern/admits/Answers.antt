@@ -11,15 +11,13 @@ use lib.Pow.{shl_exact}
 use mir.Syntax.{w32, w64}
 use mir.Val.{bits, to_z, of_z}
 use mir.Facts.{to_z-of_z}
-use borrow.Author.Rules.{rules}
 use borrow.Author.Tests.{eq-eqb}
 use Rattle.itron.specs.Limits.{max_domains}
 use Rattle.access.specs.Domains.{ordinal_of}
 use Rattle.access.specs.Patterns.{admitted}
 use Rattle.access.proofs.Ordinals.{ordinal_le}
 use Rattle.access.proofs.Patterns.{admitted_kernel, admitted_nobody, admitted_user}
-use Rattle.access.proofs.pattern.admits.Statement.{statement}
-use Rattle.access.proofs.pattern.admits.Tie as tie
+use Rattle.access.proofs.pattern.admits.Goals as goal
 
 -- a pattern moved up by one has at d the bit of domain d, and at 0 none
 moved_up : (p : ℕ) (z : ℤ) (d : ℕ) → (z ≡ negsuc 0 → ⊥) → d ≡ ordinal_of z max_domains → eqb (bit_and (p * 2 / 2 ^ d) 1) 1 ≡ admitted p z
@@ -28,24 +26,19 @@ moved_up p z (suc j) k u =
     rw (pow-suc 2 j, mul-div-mul_right {m = 2} p (2 ^ j) (omega arith))
     (rw (sub-one (suc j)) at (admitted_user p z (suc j) u (λ e. omega arith)))
 
-ordinal-requires : tie.Need-ordinal-requires
-ordinal-requires c κs = search rules
-
 -- what `ordinal` gives, of the domain itself (a signed argument arrives as the machine reads it back)
-user : (c : tie.After-ordinal) → c.ordinal.result ≡ ordinal_of c.before.before.args.domain max_domains
-user c = rw (to_z-of_z c.before.before.ranges.domain) at c.ordinal.ensures
+user : (c : goal.After-ordinal) → c.ordinal.result ≡ ordinal_of c.args.domain max_domains
+user c = rw (to_z-of_z c.ranges.domain) at c.ordinal.ensures
 
-shr-result : tie.Need-overflow-shr-result
-shr-result c = omega (arith, user c, ordinal_le c.before.before.args.domain max_domains)
+pub overflow_shr-result : goal.overflow_shr-result
+overflow_shr-result c = omega (arith, user c, ordinal_le c.args.domain max_domains)
 
-returns : tie.Need-returns
-returns c = eq-eqb _ _ c.if1.true ∙ admitted_kernel _ _ (sym (to_z-of_z c.before.ranges.domain) ∙ ap (to_z w32) c.if1.true)
+pub returns-then-domain-eq-KERNEL_DOMAIN : goal.returns-then-domain-eq-KERNEL_DOMAIN
+returns-then-domain-eq-KERNEL_DOMAIN c =
+    eq-eqb _ _ c.if-domain-eq-KERNEL_DOMAIN.true ∙ admitted_kernel _ _ (sym (to_z-of_z c.ranges.domain) ∙ ap (to_z w32) c.if-domain-eq-KERNEL_DOMAIN.true)
 
 -- in 64 bits no bit of the pattern is lost
-returns-2 : tie.Need-returns-2
-returns-2 c =
-    ap (λ (x : ℕ). eqb (bit_and (x / 2 ^ c.ordinal.result) 1) 1) (shl_exact (bits w32) 1 (bits w64) c.before.before.ranges.pattern.fits (omega arith))
-    ∙ moved_up _ _ _ (λ e. c.before.if1.false (ap (of_z w32) e)) (user c)
-
-pub admits_spec : {M : Type 1} → statement M
-admits_spec = tie.close (tie.spec ordinal-requires shr-result returns returns-2)
+pub returns-else-domain-eq-KERNEL_DOMAIN : goal.returns-else-domain-eq-KERNEL_DOMAIN
+returns-else-domain-eq-KERNEL_DOMAIN c =
+    ap (λ (x : ℕ). eqb (bit_and (x / 2 ^ c.ordinal.result) 1) 1) (shl_exact (bits w32) 1 (bits w64) c.ranges.pattern.fits (omega arith))
+    ∙ moved_up _ _ _ (λ e. c.if-domain-eq-KERNEL_DOMAIN.false (ap (of_z w32) e)) (user c)
