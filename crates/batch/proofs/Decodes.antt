@@ -18,7 +18,7 @@ use Rattle.model.specs.State.{Vector}
 use Rattle.model.specs.Lists.{All, words}
 use Rattle.model.specs.Acts.{own, refer, set_vector}
 use Rattle.model.specs.declared.sem.SemaphoreCall.TheVariants.{Signal as signal, Acquire as acquire}
-use Rattle.model.specs.declared.dtq.QueueCall.TheVariants.{Send as send, Receive as receive, ForcedSend as forcedSend}
+use Rattle.model.specs.declared.dtq.QueueCall.TheVariants.{Send as send, Receive as receive, ForcedSend as forced_send}
 use Rattle.model.specs.declared.Patience.TheVariants.{Polling, Forever}
 use Rattle.model.specs.declared.svc.ExtendedCall.TheVariants.{Enter, Leave}
 use Rattle.model.specs.Calls.{Op, Call, call, on_semaphore, on_queue, on_level}
@@ -73,7 +73,7 @@ means_by n w v t (on_queue i (own (receive Polling))) = refl
 means_by n w v t (on_queue i (own (receive Forever))) = refl
 means_by n w v t (on_queue i refer) = refl
 means_by n w v t (on_queue i (set_vector x)) = refl
-means_by n w v t (on_queue i (own (forcedSend x))) = refl
+means_by n w v t (on_queue i (own (forced_send x))) = refl
 means_by n w v t (on_level Enter) = refl
 means_by n w v t (on_level Leave) = refl
 

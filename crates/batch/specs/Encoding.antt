@@ -6,7 +6,7 @@ use Rattle.std.proofs.Common.{to_z, of_z}
 use Rattle.model.specs.Answers.{Answer, outcome_of, released_of}
 use Rattle.model.specs.Acts.{own, refer, set_vector}
 use Rattle.model.specs.declared.sem.SemaphoreCall.TheVariants.{Signal as signal, Acquire as acquire}
-use Rattle.model.specs.declared.dtq.QueueCall.TheVariants.{Send as send, Receive as receive, ForcedSend as forcedSend}
+use Rattle.model.specs.declared.dtq.QueueCall.TheVariants.{Send as send, Receive as receive, ForcedSend as forced_send}
 use Rattle.model.specs.declared.svc.ExtendedCall.TheVariants.{Enter, Leave}
 use Rattle.model.specs.Calls.{Call, call, on_semaphore, on_queue, on_level}
 use Rattle.model.specs.History.{History}
@@ -43,7 +43,7 @@ meanings q =
     ∷ call q.caller (on_queue q.object (own (receive Forever)))
     ∷ call q.caller (on_queue q.object refer)
     ∷ call q.caller (on_queue q.object (set_vector q.vector))
-    ∷ call q.caller (on_queue q.object (own (forcedSend q.word)))
+    ∷ call q.caller (on_queue q.object (own (forced_send q.word)))
     ∷ call q.caller (on_level Enter)
     ∷ call q.caller (on_level Leave)
     ∷ []

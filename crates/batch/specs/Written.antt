@@ -7,7 +7,7 @@ use Rattle.model.specs.State.{Vector}
 use Rattle.model.specs.Answers.{Answer, released_of}
 use Rattle.model.specs.Acts.{own, refer, set_vector}
 use Rattle.model.specs.declared.sem.SemaphoreCall.TheVariants.{Signal as signal, Acquire as acquire}
-use Rattle.model.specs.declared.dtq.QueueCall.TheVariants.{Send as send, Receive as receive, ForcedSend as forcedSend}
+use Rattle.model.specs.declared.dtq.QueueCall.TheVariants.{Send as send, Receive as receive, ForcedSend as forced_send}
 use Rattle.model.specs.declared.Patience.TheVariants.{Polling, Forever}
 use Rattle.model.specs.declared.svc.ExtendedCall.TheVariants.{Enter, Leave}
 use Rattle.model.specs.Calls.{Op, Call, on_semaphore, on_queue, on_level}
@@ -32,7 +32,7 @@ module _ (n : ℤ) (w : ℕ) (v : Vector) where
   numbers_by t (on_queue i (own (receive Forever))) = row 9 t i w v
   numbers_by t (on_queue i refer) = row 10 t i w v
   numbers_by t (on_queue i (set_vector x)) = row 11 t i w x
-  numbers_by t (on_queue i (own (forcedSend x))) = row 12 t i x v
+  numbers_by t (on_queue i (own (forced_send x))) = row 12 t i x v
   numbers_by t (on_level Enter) = row 13 t n w v
   numbers_by t (on_level Leave) = row 14 t n w v
 

@@ -1,6 +1,6 @@
 // A line of input while its bytes come in.
 ghost use Rattle.std.specs.Prelude.{◌≡◌, ◌≤◌, drop};
-ghost use Rattle.command.specs.Lines.{line_size, pushed as pushedTo, gathered_of, without_cr};
+ghost use Rattle.command.specs.Lines.{line_size, pushed as pushed_to, gathered_of, without_cr};
 
 // One more than the longest line that is read: a full array is a line that is too long.
 pub const SIZE: usize = 256;
@@ -33,7 +33,7 @@ impl Line {
 
     // The line with one byte more; what does not fit is passed over.
     pub fn pushed(mut self, byte: u8) -> Line
-        ensures { result ≡ pushedTo self byte }
+        ensures { result ≡ pushed_to self byte }
     {
         let at = self.count;
         if SIZE <= at {

@@ -1,7 +1,7 @@
 // A line's text: no comment, no blanks at its ends, and one space between two words.
 ghost use Rattle.std.specs.Prelude.{◌≡◌, ◌≤◌};
 ghost use Rattle.command.specs.Lines.{line_size};
-ghost use Rattle.command.specs.Texts.{is_blank, empty_text, put as putTo, with as withByte, text_of};
+ghost use Rattle.command.specs.Texts.{is_blank, empty_text, put as put_to, with as with_byte, text_of};
 
 use crate::line::{Line, SIZE};
 
@@ -38,7 +38,7 @@ impl Text {
 
     fn put(mut self, byte: u8) -> Text
         requires { self.count ≤ line_size }
-        ensures { (result ≡ putTo self byte) × (result.count ≤ line_size) }
+        ensures { (result ≡ put_to self byte) × (result.count ≤ line_size) }
     {
         let at = self.count;
         if SIZE <= at {
@@ -53,7 +53,7 @@ impl Text {
     // The text with the line's next byte.
     fn with(mut self, byte: u8) -> Text
         requires { self.count ≤ line_size }
-        ensures { (result ≡ withByte self byte) × (result.count ≤ line_size) }
+        ensures { (result ≡ with_byte self byte) × (result.count ≤ line_size) }
     {
         if is_blank(byte) {
             self.gap = true;

@@ -18,7 +18,7 @@ use Rattle.model.specs.Queues.{act_of, does, queue_in, set_buffer, has_room, sen
 use Rattle.model.specs.declared.dtq.QueueCall.{QueueCall}
 use Rattle.model.specs.declared.dtq.QueueRequest.{QueueRequest}
 use Rattle.model.specs.declared.dtq.QueueRequest.TheVariants as Request
-use Rattle.model.specs.contracts.dtq.QueueRequest.{the_type as request-type}
+use Rattle.model.specs.contracts.dtq.QueueRequest.{the_type as request_type}
 use Rattle.model.specs.declared.Info.{Info}
 use Rattle.model.specs.declared.Reply.{Reply}
 use Rattle.model.specs.declared.Patience.{Patience}
@@ -122,7 +122,7 @@ module _ {t : Tasks} {s : Queues} (ht : TasksHeld.Held t) (h : Held s) (k : ℕ)
         ∙ receives_by (get_or buffer 0 0 ∷ drop 1 buffer) (y.entry ∷ y.rest) (split buffer z) y.list
 
 -- ---- by the call and by the request
-pub is_refer_lem : (r : QueueRequest) → OneOf (1 ∷ []) (tag_of request-type r) → r ≡ Request.Refer
+pub is_refer_lem : (r : QueueRequest) → OneOf (1 ∷ []) (tag_of request_type r) → r ≡ Request.Refer
 is_refer_lem (Request.Own c) t = absurd (omega arith)
 is_refer_lem Request.Refer t = refl
 is_refer_lem (Request.SetVector v) t = absurd (omega arith)

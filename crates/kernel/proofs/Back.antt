@@ -41,13 +41,13 @@ use Rattle.kernel.specs.Promises.{Does, Begins, Enters}
 -- what is seen of the form of a state within the limits is that state
 pub back : (m : Model.State) → Fit m → view_of (state_of m) ≡ m
 back m f =
-    let d = TasksBack.back-entries m.fixed.tasks m.waits f.waits in
-    let w = TasksBack.back-waits m.fixed.tasks m.waits f.waits in
+    let d = TasksBack.back_entries m.fixed.tasks m.waits f.waits in
+    let w = TasksBack.back_waits m.fixed.tasks m.waits f.waits in
     let l = ap (λ (es : List TaskEntry). levels_of (length es) (levels_as m.levels)) d ∙ back_levels (length m.fixed.tasks) m.levels f.levels.each in
-    let x = SemsBack.back-sems m.sems in
-    let q = QueuesBack.back-queues m.queues f.queues in
-    let u = RegionsBack.back-unit m.fixed.unit m.fixed.regions in
-    let r = RegionsBack.back-regions m.fixed.unit m.fixed.regions in
+    let x = SemsBack.back_sems m.sems in
+    let q = QueuesBack.back_queues m.queues f.queues in
+    let u = RegionsBack.back_unit m.fixed.unit m.fixed.regions in
+    let r = RegionsBack.back_regions m.fixed.unit m.fixed.regions in
     λ i. record { fixed = record { closed = m.fixed.closed; count = m.fixed.count; unit = u i; tasks = d i; regions = r i }; waits = w i; sems = x i; queues = q i; levels = l i }
 
 pub valid_form : (m : Model.State) → Sound m → Valid (state_of m)
@@ -62,16 +62,16 @@ faithful v v' e = v.form ∙ ap state_of e ∙ sym v'.form
 -- ---- the parts of a valid state are held
 module _ {s : State} (v : Valid s) where
   pub tasks_held : TasksHeld.Held s.tasks
-  tasks_held = subst (λ (t : Tasks). TasksHeld.Held t) (sym (ap (λ (x : State). x.tasks) v.form)) (TasksBack.held-as (view_of s).fixed.tasks (view_of s).waits v.sound.fit.waits)
+  tasks_held = subst (λ (t : Tasks). TasksHeld.Held t) (sym (ap (λ (x : State). x.tasks) v.form)) (TasksBack.held_as (view_of s).fixed.tasks (view_of s).waits v.sound.fit.waits)
 
   pub sems_held : SemsHeld.Held s.semaphores
-  sems_held = subst (λ (t : Semaphores). SemsHeld.Held t) (sym (ap (λ (x : State). x.semaphores) v.form)) (SemsBack.held-as (view_of s).sems v.sound.fit.sems)
+  sems_held = subst (λ (t : Semaphores). SemsHeld.Held t) (sym (ap (λ (x : State). x.semaphores) v.form)) (SemsBack.held_as (view_of s).sems v.sound.fit.sems)
 
   pub queues_held : QueuesHeld.Held s.queues
-  queues_held = subst (λ (t : Queues). QueuesHeld.Held t) (sym (ap (λ (x : State). x.queues) v.form)) (QueuesBack.held-as (view_of s).queues v.sound.fit.queues)
+  queues_held = subst (λ (t : Queues). QueuesHeld.Held t) (sym (ap (λ (x : State). x.queues) v.form)) (QueuesBack.held_as (view_of s).queues v.sound.fit.queues)
 
   pub regions_held : RegionsHeld.Held s.regions
-  regions_held = subst (λ (t : Regions). RegionsHeld.Held t) (sym (ap (λ (x : State). x.regions) v.form)) (RegionsBack.held-as (view_of s).fixed.unit (view_of s).fixed.regions v.sound.unit.power v.sound.fit.regions)
+  regions_held = subst (λ (t : Regions). RegionsHeld.Held t) (sym (ap (λ (x : State). x.regions) v.form)) (RegionsBack.held_as (view_of s).fixed.unit (view_of s).fixed.regions v.sound.unit.power v.sound.fit.regions)
 
 -- ---- the whole promise from the one equation
 module _ {s : State} (v : Valid s) where

@@ -30,23 +30,23 @@ use Rattle.model.specs.declared.check.Target.{Target}
 use Rattle.model.specs.declared.check.Target.TheVariants.{OutOfRange, Missing, At}
 use Rattle.tasks.specs.declared.wait.Caller.{Caller}
 use Rattle.tasks.specs.declared.wait.Caller.TheVariants as Caller
-use Rattle.model.specs.contracts.check.Target.{the_type as target-type}
-use Rattle.tasks.specs.contracts.wait.Caller.{the_type as caller-type}
+use Rattle.model.specs.contracts.check.Target.{the_type as target_type}
+use Rattle.tasks.specs.contracts.wait.Caller.{the_type as caller_type}
 use Rattle.tasks.specs.Held.{Free, Passed}
 use Rattle.kernel.specs.declared.state.State.{State}
 use Rattle.kernel.specs.View.{view_of}
 use Rattle.kernel.specs.Inside.{caller_in, checked_by, check_of}
 
-pub nobody : (w : Caller) → OneOf (0 ∷ []) (tag_of caller-type w) → w ≡ Caller.Nobody
+pub nobody : (w : Caller) → OneOf (0 ∷ []) (tag_of caller_type w) → w ≡ Caller.Nobody
 nobody Caller.Nobody t = refl
 nobody (Caller.Ready n d) t = absurd (omega arith)
 
-pub is_out : (x : Target) → OneOf (0 ∷ []) (tag_of target-type x) → x ≡ OutOfRange
+pub is_out : (x : Target) → OneOf (0 ∷ []) (tag_of target_type x) → x ≡ OutOfRange
 is_out OutOfRange t = refl
 is_out Missing t = absurd (omega arith)
 is_out (At n v) t = absurd (omega arith)
 
-pub is_missing : (x : Target) → OneOf (1 ∷ []) (tag_of target-type x) → x ≡ Missing
+pub is_missing : (x : Target) → OneOf (1 ∷ []) (tag_of target_type x) → x ≡ Missing
 is_missing OutOfRange t = absurd (omega arith)
 is_missing Missing t = refl
 is_missing (At n v) t = absurd (omega arith)

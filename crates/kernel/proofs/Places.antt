@@ -10,8 +10,8 @@ use denote.Enum.Declared.{tag_of}
 use Rattle.model.specs.Lists.{All, cons_if, keep}
 use Rattle.model.specs.State.{Waiter, State, place, sem_at, queue_at, same_side}
 use Rattle.model.specs.declared.Side.{Side}
-use Rattle.model.specs.declared.Side.TheVariants.{OnSem as onSem, Receiving as receiving, Sending as sending}
-use Rattle.model.specs.contracts.Side.{the_type as side-type}
+use Rattle.model.specs.declared.Side.TheVariants.{OnSem as on_sem, Receiving as receiving, Sending as sending}
+use Rattle.model.specs.contracts.Side.{the_type as side_type}
 use Rattle.model.specs.Waits.{stands_at, by_priority, standing, order_of, wait_queue}
 use Rattle.model.specs.Conditions.{Plain, Sound}
 use Rattle.model.proofs.Lists.{eqb_no}
@@ -32,17 +32,17 @@ no_waiter m s d n k e =
 
 -- ---- which order holds on a side, by what a match found the side to be
 module _ (m : State) where
-  pub order_on_sem : (d : Side) (n : ℕ) → OneOf (0 ∷ []) (tag_of side-type d) → {b : Bool} → b ≡ by_priority (sem_at m n).attribute → b ≡ order_of m d n
-  order_on_sem onSem n t e = e
+  pub order_on_sem : (d : Side) (n : ℕ) → OneOf (0 ∷ []) (tag_of side_type d) → {b : Bool} → b ≡ by_priority (sem_at m n).attribute → b ≡ order_of m d n
+  order_on_sem on_sem n t e = e
   order_on_sem receiving n t e = absurd (omega arith)
   order_on_sem sending n t e = absurd (omega arith)
 
-  pub order_receiving : (d : Side) (n : ℕ) → OneOf (1 ∷ []) (tag_of side-type d) → false ≡ order_of m d n
-  order_receiving onSem n t = absurd (omega arith)
+  pub order_receiving : (d : Side) (n : ℕ) → OneOf (1 ∷ []) (tag_of side_type d) → false ≡ order_of m d n
+  order_receiving on_sem n t = absurd (omega arith)
   order_receiving receiving n t = refl
   order_receiving sending n t = absurd (omega arith)
 
-  pub order_sending : (d : Side) (n : ℕ) → OneOf (2 ∷ []) (tag_of side-type d) → {b : Bool} → b ≡ by_priority (queue_at m n).attribute → b ≡ order_of m d n
-  order_sending onSem n t e = absurd (omega arith)
+  pub order_sending : (d : Side) (n : ℕ) → OneOf (2 ∷ []) (tag_of side_type d) → {b : Bool} → b ≡ by_priority (queue_at m n).attribute → b ≡ order_of m d n
+  order_sending on_sem n t e = absurd (omega arith)
   order_sending receiving n t e = absurd (omega arith)
   order_sending sending n t e = e

@@ -7,7 +7,7 @@ ghost use Rattle.model.specs.Queues.{act_of, room};
 ghost use Rattle.model.specs.Table.{check_entry, enter, queue};
 ghost use Rattle.model.specs.Calls.{call, on_queue};
 ghost use Rattle.model.specs.declared.Patience.TheVariants.{Polling, Forever};
-ghost use Rattle.model.specs.declared.dtq.QueueCall.TheVariants.{Send as send, Receive as receive, ForcedSend as forcedSend};
+ghost use Rattle.model.specs.declared.dtq.QueueCall.TheVariants.{Send as send, Receive as receive, ForcedSend as forced_send};
 ghost use Rattle.dataqueue.specs.Effects.{acted};
 ghost use Rattle.dataqueue.specs.View.{info_of};
 ghost use Rattle.kernel.specs.View.{view_of};
@@ -119,7 +119,7 @@ impl State {
     // Forced send.
     pub fn fsnd_dtq(mut self, caller: i32, id: i32, word: u32) -> Answer
         requires { Valid self }
-        ensures { Does self (call caller (on_queue id (own (forcedSend word)))) result }
+        ensures { Does self (call caller (on_queue id (own (forced_send word)))) result }
     {
         self.with_queues(self.queue_effect(
             caller,

@@ -16,7 +16,7 @@ use Rattle.model.specs.Table.{Entry, task, fresh, check_entry, enter, enter_by, 
 use Rattle.model.specs.Units.{unit_ok}
 use Rattle.model.specs.Acts.{own, refer, set_vector}
 use Rattle.model.specs.declared.sem.SemaphoreCall.TheVariants.{Signal as signal, Acquire as acquire}
-use Rattle.model.specs.declared.dtq.QueueCall.TheVariants.{Send as send, Receive as receive, ForcedSend as forcedSend}
+use Rattle.model.specs.declared.dtq.QueueCall.TheVariants.{Send as send, Receive as receive, ForcedSend as forced_send}
 use Rattle.model.specs.declared.Patience.TheVariants.{Polling, Forever}
 use Rattle.model.specs.declared.svc.ExtendedCall.TheVariants.{Enter, Leave}
 use Rattle.model.specs.Calls.{Call, call, on_semaphore, on_queue, on_level, asks}
@@ -106,7 +106,7 @@ abbrev sets_queue : Call
 sets_queue = call (pos 1) (on_queue (pos 1) (set_vector (private_of (pos 1))))
 
 abbrev forces : Call
-forces = call (pos 1) (on_queue (pos 1) (own (forcedSend 700)))
+forces = call (pos 1) (on_queue (pos 1) (own (forced_send 700)))
 
 abbrev enters : Call
 enters = call (pos 1) (on_level Enter)

@@ -24,11 +24,11 @@ use Rattle.model.proofs.Turns.{semaphore_first_come, senders_first_come, receive
 use Rattle.model.specs.Acts.{Act, own}
 use Rattle.model.specs.declared.Outcome.TheVariants as Outcome
 use Rattle.model.specs.declared.Patience.{Patience}
-use Rattle.model.specs.declared.Side.TheVariants.{OnSem as onSem, Receiving as receiving, Sending as sending}
+use Rattle.model.specs.declared.Side.TheVariants.{OnSem as on_sem, Receiving as receiving, Sending as sending}
 use Rattle.model.specs.declared.sem.SemaphoreCall.{SemaphoreCall}
 use Rattle.model.specs.declared.sem.SemaphoreCall.TheVariants.{Signal as signal}
 use Rattle.model.specs.declared.dtq.QueueCall.{QueueCall}
-use Rattle.model.specs.declared.dtq.QueueCall.TheVariants.{Send as send, Receive as receive, ForcedSend as forcedSend}
+use Rattle.model.specs.declared.dtq.QueueCall.TheVariants.{Send as send, Receive as receive, ForcedSend as forced_send}
 use Rattle.model.specs.declared.svc.ExtendedCall.{ExtendedCall}
 use Rattle.model.specs.Calls.{Op, on_semaphore, on_queue, on_level, Call, call, step}
 use Rattle.model.specs.Lists.{Some, total, arrange}
@@ -127,13 +127,13 @@ module _ (s₁ : State) (e : Waiter) (ahead : List Waiter) (cs : List Call) (s :
     at_place : (p : Place) → count_at p (some p) ≡ 1
     at_place p = ap count_if (WaitQueues.alike p)
 
-    pub signal_releases : TakesTurns s₁ (place onSem (no n)) e ahead → Due (place onSem (no n)) → Does s (call t (on_semaphore n (own signal))) r → r.outcome ≡ Outcome.Code (pos 0) → r.released.task ≡ e.task
-    signal_releases u z d o = u.served cs s l h z _ r d (rw (code_is _ ok d o) (at_place (place onSem (no n))))
+    pub signal_releases : TakesTurns s₁ (place on_sem (no n)) e ahead → Due (place on_sem (no n)) → Does s (call t (on_semaphore n (own signal))) r → r.outcome ≡ Outcome.Code (pos 0) → r.released.task ≡ e.task
+    signal_releases u z d o = u.served cs s l h z _ r d (rw (code_is _ ok d o) (at_place (place on_sem (no n))))
 
     pub send_releases : (p : Patience) (w : ℕ) → TakesTurns s₁ (place receiving (no n)) e ahead → Due (place receiving (no n)) → Does s (call t (on_queue n (own (send p w)))) r → r.outcome ≡ Outcome.Code (pos 0) → r.released.task ≡ e.task
     send_releases p w u z d o = u.served cs s l h z _ r d (rw (code_is _ ok d o) (at_place (place receiving (no n))))
 
-    pub force_releases : (w : ℕ) → TakesTurns s₁ (place receiving (no n)) e ahead → Due (place receiving (no n)) → Does s (call t (on_queue n (own (forcedSend w)))) r → r.outcome ≡ Outcome.Code (pos 0) → r.released.task ≡ e.task
+    pub force_releases : (w : ℕ) → TakesTurns s₁ (place receiving (no n)) e ahead → Due (place receiving (no n)) → Does s (call t (on_queue n (own (forced_send w)))) r → r.outcome ≡ Outcome.Code (pos 0) → r.released.task ≡ e.task
     force_releases w u z d o = u.served cs s l h z _ r d (rw (code_is _ ok d o) (at_place (place receiving (no n))))
 
     pub receive_releases : (p : Patience) → TakesTurns s₁ (place sending (no n)) e ahead → Due (place sending (no n)) → Does s (call t (on_queue n (own (receive p)))) r → r.outcome ≡ Outcome.Code (pos 0) → r.released.task ≡ e.task
@@ -185,8 +185,8 @@ pub senders_by_priority : {s s' : State} {r : Entered} {cs : List Call} {l : Lis
 senders_by_priority b g h q e = demand_stands (whole b g h).demand q e
 
 module _ {s : State} (v : Valid s) (n : ℕ) (e : Waiter) (ahead behind : List Waiter) where
-  pub turns_at_semaphore : (sem_at (view_of s) n).attribute ≡ 0 → waiters_at (view_of s) (place onSem n) ≡ ahead ++ e ∷ behind → TakesTurns s (place onSem n) e ahead
-  turns_at_semaphore h w = turns v (place onSem n) (semaphore_first_come (view_of s) n h) e ahead behind w
+  pub turns_at_semaphore : (sem_at (view_of s) n).attribute ≡ 0 → waiters_at (view_of s) (place on_sem n) ≡ ahead ++ e ∷ behind → TakesTurns s (place on_sem n) e ahead
+  turns_at_semaphore h w = turns v (place on_sem n) (semaphore_first_come (view_of s) n h) e ahead behind w
 
   pub turns_to_send : (queue_at (view_of s) n).attribute ≡ 0 → waiters_at (view_of s) (place sending n) ≡ ahead ++ e ∷ behind → TakesTurns s (place sending n) e ahead
   turns_to_send h w = turns v (place sending n) (senders_first_come (view_of s) n h) e ahead behind w

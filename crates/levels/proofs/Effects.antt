@@ -13,18 +13,18 @@ use Rattle.itron.specs.Codes.{Err, e_sys, e_ctx, ok_number, number_of}
 use Rattle.itron.specs.Limits.{max_level}
 use Rattle.model.specs.declared.svc.ExtendedCall.{ExtendedCall}
 use Rattle.model.specs.declared.svc.ExtendedCall.TheVariants.{Enter, Leave}
-use Rattle.model.specs.contracts.svc.ExtendedCall.{the_type as call-type}
+use Rattle.model.specs.contracts.svc.ExtendedCall.{the_type as call_type}
 use Rattle.levels.specs.declared.state.Levels.{Levels}
 use Rattle.levels.specs.declared.call.Changed.TheVariants.{Refused, To}
 use Rattle.levels.specs.Form.{with_level}
 use Rattle.levels.specs.Effects.{changed_by, changed_of, acted_by}
 
 -- ---- which call it is, by what a match found
-pub is_enter : (c : ExtendedCall) → OneOf (0 ∷ []) (tag_of call-type c) → c ≡ Enter
+pub is_enter : (c : ExtendedCall) → OneOf (0 ∷ []) (tag_of call_type c) → c ≡ Enter
 is_enter Enter t = refl
 is_enter Leave t = absurd (omega arith)
 
-pub is_leave : (c : ExtendedCall) → OneOf (1 ∷ []) (tag_of call-type c) → c ≡ Leave
+pub is_leave : (c : ExtendedCall) → OneOf (1 ∷ []) (tag_of call_type c) → c ≡ Leave
 is_leave Enter t = absurd (omega arith)
 is_leave Leave t = refl
 

@@ -8,7 +8,7 @@ use lib.IntN.{ℤ, pos, negsuc}
 use lib.ListN.{length}
 use Rattle.itron.specs.Limits.{max_domains, max_tasks, max_priority, max_level, max_semaphores, max_queues, max_regions, max_words, max_count, max_capacity, address_end, max_unit_power}
 use Rattle.model.specs.Lists.{at}
-use Rattle.model.specs.State.{TaskEntry, Sem, Queue, Region, Waiter, Side, onSem, receiving, sending, State, place, waiter, sem_at, queue_at, level_at}
+use Rattle.model.specs.State.{TaskEntry, Sem, Queue, Region, Waiter, Side, on_sem, receiving, sending, State, place, waiter, sem_at, queue_at, level_at}
 use Rattle.model.specs.Waits.{waiters_at, is_other, absent}
 use Rattle.model.specs.Queues.{words_used}
 use Rattle.model.specs.Conditions.{Distinct, Known, WordFits, Plain, BufferFits, Bounded, Ascending, Whole, TaskOwner, Owner, TaskEntryFits, SemEntryFits, QueueEntryFits, RegionEntryFits, side_count, Registered, NoWords, Sound}
@@ -26,10 +26,10 @@ module _ (s : State) (k : Sound s) where
   pub count_within : (i : ℕ) → (sem_at s i).count ≤ (sem_at s i).max
   count_within i = k.within i
 
-  pub count_spent : (i : ℕ) (e : Waiter) (l : List Waiter) → waiters_at s (place onSem i) ≡ e ∷ l → (sem_at s i).count ≡ 0
+  pub count_spent : (i : ℕ) (e : Waiter) (l : List Waiter) → waiters_at s (place on_sem i) ≡ e ∷ l → (sem_at s i).count ≡ 0
   count_spent i e l h = go (k.spent i)
     where
-      go : (waiters_at s (place onSem i) ≡ []) ⊎ ((sem_at s i).count ≡ 0) → (sem_at s i).count ≡ 0
+      go : (waiters_at s (place on_sem i) ≡ []) ⊎ ((sem_at s i).count ≡ 0) → (sem_at s i).count ≡ 0
       go (inl z) = absurd (cons_ne h z)
       go (inr z) = z
 
@@ -55,7 +55,7 @@ module _ (s : State) (k : Sound s) where
       (t.0, t.1, (all_each Plain s.waits a b e h k.fit.waits.plain).0)
 
   pub place_registered : (a : List Waiter) (t n w : ℕ) (d : Side) (b : List Waiter) → s.waits ≡ a ++ waiter t d n w ∷ b
-      → (d ≡ onSem → (n ≤ length s.sems) × (w ≡ 0)) × (d ≡ receiving → (n ≤ length s.queues) × (w ≡ 0)) × (d ≡ sending → n ≤ length s.queues)
+      → (d ≡ on_sem → (n ≤ length s.sems) × (w ≡ 0)) × (d ≡ receiving → (n ≤ length s.queues) × (w ≡ 0)) × (d ≡ sending → n ≤ length s.queues)
   place_registered a t n w d b h =
       let r = all_each (Registered s) s.waits a b (waiter t d n w) h k.registered in
       let p = (all_each Plain s.waits a b (waiter t d n w) h k.fit.waits.plain).1 in (

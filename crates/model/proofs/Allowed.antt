@@ -13,12 +13,12 @@ use Rattle.access.specs.Domains.{running_of}
 use Rattle.access.specs.Patterns.{admitted}
 use Rattle.itron.specs.Codes.{Code, ok, waiting, error}
 use Rattle.model.specs.Lists.{All, Some, Each}
-use Rattle.model.specs.State.{Vector, Side, onSem, receiving, sending, Place, Waiter, State, queue_at, domain_at, level_at, place, no}
+use Rattle.model.specs.State.{Vector, Side, on_sem, receiving, sending, Place, Waiter, State, queue_at, domain_at, level_at, place, no}
 use Rattle.model.specs.Answers.{Released, Answer, when_waiting}
 use Rattle.model.specs.Waits.{Patience}
 use Rattle.model.specs.Acts.{Act, own, refer, set_vector}
 use Rattle.model.specs.Semaphores.{signal, acquire}
-use Rattle.model.specs.Queues.{QueueCall, send, receive, forcedSend}
+use Rattle.model.specs.Queues.{QueueCall, send, receive, forced_send}
 use Rattle.model.specs.ExtendedCalls.{ExtendedCall}
 use Rattle.model.specs.Calls.{Op, on_semaphore, on_queue, on_level, call}
 use Rattle.model.specs.History.{Event, History, Made, seen_by, asked_if, of_asked, vector_since, pending}
@@ -52,7 +52,7 @@ ran_as s₀ s h domain q t d = let e : level_since t (by_queue q h) ≡ level_at
 abbrev pub IsSend : QueueCall → Type 0
 IsSend (send p w) = Unit
 IsSend (receive p) = ⊥
-IsSend (forcedSend w) = Unit
+IsSend (forced_send w) = Unit
 
 -- ---- where a released receiver came from
 -- a call that is not task t's, or did not answer "waiting"
@@ -81,12 +81,13 @@ module _ (domain : ℕ → ℤ) (v : Vector) (n : ℤ) (t : ℕ) where
 
   received : (op : Op) → of_asked ⊥ IsReceive (asked_of (no n) op) → Received n op
   received (on_semaphore z a) k = absurd k
+  received (on_level a) k = elim k [ ]
   received (on_queue z a) k = go (eqb (no n) (no z)) refl a k
     where
       go : (b : Bool) → eqb (no n) (no z) ≡ b → (a : Act QueueCall) → of_asked ⊥ IsReceive (asked_if b a) → Received n (on_queue z a)
       go true e (own (receive p)) k = (z, (p, (sym (eq_of (no n) (no z) e), refl)))
       go true e (own (send p w)) k = absurd k
-      go true e (own (forcedSend w)) k = absurd k
+      go true e (own (forced_send w)) k = absurd k
       go true e refer k = absurd k
       go true e (set_vector x) k = absurd k
       go false e a k = absurd k
@@ -130,7 +131,7 @@ module _ (s₀ s found : State) (later h : History) (t n : ℤ) (a : Answer) whe
       one : (x : QueueCall) → IsSend x → All (λ (y : Sent). T (admitted vector_then.normal1 running_then)) (send_in (length (by_queue (no n) h)) (no t) x) → admitted vector_then.normal1 running_then ≡ true
       one (send p w) i z = is_true _ z.0
       one (receive p) i z = absurd i
-      one (forcedSend w) i z = is_true _ z.0
+      one (forced_send w) i z = is_true _ z.0
 
       go : (c : Code) → (c ≡ ok) ⊎ (c ≡ waiting) → SentAllowed (domain_at s₀) (queue_at s₀ (no n)).vector (seen (some (own x)) c) (by_queue (no n) h) → admitted vector_then.normal1 running_then ≡ true
       go ok j z = one x i z
@@ -159,7 +160,7 @@ module _ (s₀ s found : State) (later h : History) (t n : ℤ) (a : Answer) whe
         go : (x : QueueCall) → IsSend x → TakenAllowed (domain_at s₀) (queue_at s₀ (no n)).vector (seen (some (own x)) ok) (by_queue (no n) h) → All Arrived a.released
         go (send p w) i z = z
         go (receive p) i z = absurd i
-        go (forcedSend w) i z = z
+        go (forced_send w) i z = z
 
     -- it had begun to wait
     pub taker_waited : All (NotBegun r.task) h → ⊥
@@ -189,13 +190,13 @@ module _ (s₀ s₁ s₂ s found : State) (later h : History) (t n : ℤ) (a : A
   waited op x e d = subst (λ (l : List Waiter). WaitsAt (some (place x (no n))) r.task l) (sym d.0.waiters_are) (subst (λ (o : Option Place). WaitsAt o r.task (pending h)) e (ends op d.1).waited)
 
   -- a signal releases who waits for the semaphore, a send who waits to receive from the queue, a receive who waits to send to it
-  pub signal_ends : Before (on_semaphore n (own signal)) → Waited onSem
-  signal_ends d = waited _ onSem refl d
+  pub signal_ends : Before (on_semaphore n (own signal)) → Waited on_sem
+  signal_ends d = waited _ on_sem refl d
 
   pub send_ends : (x : QueueCall) → IsSend x → Before (on_queue n (own x)) → Waited receiving
   send_ends (send p w) i d = waited _ receiving refl d
   send_ends (receive p) i d = absurd i
-  send_ends (forcedSend w) i d = waited _ receiving refl d
+  send_ends (forced_send w) i d = waited _ receiving refl d
 
   pub receive_ends : (p : Patience) → Before (on_queue n (own (receive p))) → Waited sending
   receive_ends p d = waited _ sending refl d

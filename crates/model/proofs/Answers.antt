@@ -25,7 +25,7 @@ use Rattle.model.specs.Rooms.{Room, ready, in_range, admits, vector_at, slots_of
 use Rattle.model.specs.Semaphores as Semaphores
 use Rattle.model.specs.Semaphores.{signal, acquire}
 use Rattle.model.specs.Queues as Queues
-use Rattle.model.specs.Queues.{send, receive, forcedSend}
+use Rattle.model.specs.Queues.{send, receive, forced_send}
 use Rattle.model.specs.ExtendedCalls as Extended
 use Rattle.model.specs.ExtendedCalls.{Enter, Leave, level_check}
 use Rattle.model.specs.Calls.{Op, on_semaphore, on_queue, on_level, call, asks, act_if, step}
@@ -61,7 +61,7 @@ pub queue_governed : (s : State) (n : ℤ) (p : Patience) (w : ℕ) (v : Vector)
 queue_governed s n p w v = (refl, refl, refl, refl)
 
 -- forced send: "It is normal operation 1" (request T-05)
-pub force_governed : (s : State) (n : ℤ) (w : ℕ) → pattern_now s (on_queue n (own (forcedSend w))) ≡ (queue_at s (no n)).vector.normal1
+pub force_governed : (s : State) (n : ℤ) (w : ℕ) → pattern_now s (on_queue n (own (forced_send w))) ≡ (queue_at s (no n)).vector.normal1
 force_governed s n w = refl
 
 -- the caller's running domain is admitted

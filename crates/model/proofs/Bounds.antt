@@ -45,7 +45,7 @@ small_ends : (s : State) → Fit s → (op : Op) → Endings s (λ (t : ℕ) (x 
 small_ends s f op = record {
   refused = λ t x e o y. quiet (error e) 0;
   tells = λ t x r o y. subst (λ (z : Asks). Small (tells (z.told s))) (sym y)
-      (record { released = omega arith; first = (lawful op).tells_first s max_tasks (waiter_small s f); second = (lawful op).tells-second s max_tasks (waiter_small s f) });
+      (record { released = omega arith; first = (lawful op).tells_first s max_tasks (waiter_small s f); second = (lawful op).tells_second s max_tasks (waiter_small s f) });
   gives = λ t x s' w k v y. quiet ok w;
   wakes = λ t x s' p e l w h k v g y. wakes s f p e l g w h;
   waits = λ t x e h c z p b v y. quiet waiting 0;

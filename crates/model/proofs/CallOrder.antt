@@ -15,7 +15,7 @@ use Rattle.model.specs.Lists.{All, keep, cons_if, any_of, words, gathered}
 use Rattle.model.specs.State.{Queue, Waiter, State, queue_at}
 use Rattle.model.specs.Answers.{when_ok, when_waiting, when_accepted}
 use Rattle.model.specs.Acts.{Act, own, refer, set_vector}
-use Rattle.model.specs.Queues.{QueueCall, send, receive, forcedSend}
+use Rattle.model.specs.Queues.{QueueCall, send, receive, forced_send}
 use Rattle.model.specs.Waits.{by_priority, senders}
 use Rattle.model.specs.History.{History, Made, of_asked}
 use Rattle.model.specs.Sends.{Sent, send_in, send_of, word_of, unforced, times, Before, Ascending, accepts, accepted, shown, not_shown, waiting_sends, freed_by, withdrawn, enters_in, enters, entered, handed, full_in, finds_full, buffered, leaves}
@@ -33,7 +33,7 @@ module _ (P : Sent → Type 0) where
       by none k = tt
       by (some (own (send p w))) k = k
       by (some (own (receive p))) k = all_keep P (shown m.answer.released) (waiting_sends h) g
-      by (some (own (forcedSend w))) k = k
+      by (some (own (forced_send w))) k = k
       by (some refer) k = tt
       by (some (set_vector v)) k = tt
 
@@ -217,7 +217,7 @@ abbrev pub NotForced : Option (Act QueueCall) → Type 0
 NotForced none = Unit
 NotForced (some (own (send p w))) = Unit
 NotForced (some (own (receive p))) = Unit
-NotForced (some (own (forcedSend w))) = ⊥
+NotForced (some (own (forced_send w))) = ⊥
 NotForced (some refer) = Unit
 NotForced (some (set_vector v)) = Unit
 
@@ -229,7 +229,7 @@ not_forced (m ∷ h) f = all_append (λ (x : Sent). x.forced ≡ false) (accepte
     by none n = tt
     by (some (own (send p w))) n = (refl, tt)
     by (some (own (receive p))) n = tt
-    by (some (own (forcedSend w))) n = absurd n
+    by (some (own (forced_send w))) n = absurd n
     by (some refer) n = tt
     by (some (set_vector v)) n = tt
 
@@ -246,7 +246,7 @@ none_full c b m h f = go m.answer.code m.asked f
     by none g = refl
     by (some (own (send p w))) g = refl
     by (some (own (receive p))) g = refl
-    by (some (own (forcedSend w))) g = absurd (no_both refl g.0)
+    by (some (own (forced_send w))) g = absurd (no_both refl g.0)
     by (some refer) g = refl
     by (some (set_vector v)) g = refl
 

@@ -1,7 +1,7 @@
 -- Regions that count as one (document 02, T-09): what a chain is by plain facts, and laws of `in_chain` for who walks along one
 use mathlib.Core.Path.{◌≡◌, refl, sym, ap, ◌∙◌, subst}
 use mathlib.Core.Logic.{◌⊎◌, inl, inr}
-use mathlib.Core.Bool.{Bool, true, false, ◌&&◌, ◌||◌, and_assoc, and-or_distrib_left, or_false}
+use mathlib.Core.Bool.{Bool, true, false, ◌&&◌, ◌||◌, and_assoc, and-or_distrib_left, or-false}
 use mathlib.Core.List.{List, [], ◌∷◌, ◌++◌, map}
 use Prim.Native.Nat.{ℕ, ◌+◌, ◌-◌, ◌≤◌, ◌<◌}
 use native.Mathlib.Omega.{arith}
@@ -30,7 +30,7 @@ module _ (a : ℕ) where
   -- the last region
   pub chain_last : (r : Region) → in_chain (r ∷ []) a ≡ leb a (end r)
   unfolding in_chain
-  chain_last r = or_false (leb a (end r))
+  chain_last r = or-false (leb a (end r))
 
   -- a region with others behind it
   pub chain_on : (r x : Region) (rs : List Region) → in_chain (r ∷ (x ∷ rs)) a ≡ leb a (end r) || ((touches r x && is_equal r x) && in_chain (x ∷ rs) a)

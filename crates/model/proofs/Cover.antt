@@ -63,29 +63,29 @@ module _ {C R : Type 0} {r : Room C R} (l : RoomLaws r) (n : ℤ) where
 
   module _ (s : State) (P : ℕ → Asks → Out → Type 0) (es : Endings s P) (t : ℕ) where
     in_room : (ws : List Waiter) (xs : List R) → Alike s ws (r.with s ws xs)
-    in_room ws xs = record { fixed = l.fixed-with s ws xs; waits = l.waits-with s ws xs }
+    in_room ws xs = record { fixed = l.fixed_with s ws xs; waits = l.waits_with s ws xs }
 
     end_own : (c : C) → check r s t (no n) (own c) ≡ none → {o : Effect R}
         → Ends R s.fixed.tasks s.waits (r.records s) t (is_at l.tag (no n)) (l.order (r.records s)) (SameBut r.nothing l.entry (no n) (r.records s)) (r.begins t (no n) c) (r.serves (no n) c) o
         → P t (on_object r n (own c)) (on_records r s o)
     end_own c h (Ended.refused e x) =
-        subst (λ (s' : State). P t (on_object r n (own c)) (out (say (error e) 0 []) s')) (sym (l.same-with s s.waits)) (es.refused t (on_object r n (own c)) e (serves_none (own c) e))
+        subst (λ (s' : State). P t (on_object r n (own c)) (out (say (error e) 0 []) s')) (sym (l.same_with s s.waits)) (es.refused t (on_object r n (own c)) e (serves_none (own c) e))
     end_own c h (Ended.gives xs w k v) = es.gives t (on_object r n (own c)) _ w (in_room s.waits xs) v
     end_own c h (Ended.wakes xs p e m w v k y z f) = es.wakes t (on_object r n (own c)) _ p e m w v (in_room (leave e.task s.waits) xs) z
-        (subst (λ (b : Bool). standing b s.fixed.tasks (waiters_at s p) ≡ e ∷ m) (l.order-at s p (room_at l.tag (no n) p y)) f)
+        (subst (λ (b : Bool). standing b s.fixed.tasks (waiters_at s p) ≡ e ∷ m) (l.order_at s p (room_at l.tag (no n) p y)) f)
     end_own c h (Ended.waits e z m b v) =
         let p = passed r s t (no n) (own c) h in
         let g = subst (All (λ (y : Waiter). Plain y × Registered s y)) b (l.plain s t (no n) p.numbered p.there c) in
-        subst (λ (s' : State). P t (on_object r n (own c)) (out (say waiting 0 []) s')) (sym (l.same-with s (join e s.waits))) (es.waits t (on_object r n (own c)) e h p.calls z g.0 b v)
+        subst (λ (s' : State). P t (on_object r n (own c)) (out (say waiting 0 []) s')) (sym (l.same_with s (join e s.waits))) (es.waits t (on_object r n (own c)) e h p.calls z g.0 b v)
 
     end_room : (a : Act C) → check r s t (no n) a ≡ none → P t (on_object r n a) ((on_object r n a).act s t)
     end_room (own c) h = end_own c h (l.ends s.fixed.tasks s.waits (r.records s) t (no n) c)
-    end_room refer h = subst (λ (s' : State). P t (on_object r n refer) (out (tells ((on_object r n refer).told s)) s')) (sym (l.same-with s s.waits)) (es.tells t (on_object r n refer) refl refl)
+    end_room refer h = subst (λ (s' : State). P t (on_object r n refer) (out (tells ((on_object r n refer).told s)) s')) (sym (l.same_with s s.waits)) (es.tells t (on_object r n refer) refl refl)
     end_room (set_vector v) h = es.gives t (on_object r n (set_vector v)) _ 0 (in_room s.waits (set_vector_of r (r.records s) (no n) v)) tt
 
   refers_room : (s : State) (t : ℕ) (a : Act C) → is_refer a ≡ true → (on_object r n a).act s t ≡ out (tells ((on_object r n a).told s)) s
   refers_room s t a h =
-      ap (λ (b : Act C). (on_object r n b).act s t) (is_refer_lem a h) ∙ ap (out (tells ((on_object r n a).told s))) (l.same-with s s.waits)
+      ap (λ (b : Act C). (on_object r n b).act s t) (is_refer_lem a h) ∙ ap (out (tells ((on_object r n a).told s))) (l.same_with s s.waits)
 
   opened_first : (s : State) (t : ℕ) (a : Act C) → s.fixed.closed ≡ false → check r s t (no n) a ≡ some e_ctx
   unfolding check
@@ -98,8 +98,8 @@ module _ {C R : Type 0} {r : Room C R} (l : RoomLaws r) (n : ℤ) where
     closed_first = λ s t h. opened_first s t a h;
     unserved = serves_none a;
     refers = λ s t h. refers_room s t a h;
-    tells_first = λ s m h. l.told-first s.fixed.tasks s.waits (r.records s) (no n) m h;
-    tells_second = λ s m h. l.told-second s.fixed.tasks s.waits (r.records s) (no n) m h;
+    tells_first = λ s m h. l.told_first s.fixed.tasks s.waits (r.records s) (no n) m h;
+    tells_second = λ s m h. l.told_second s.fixed.tasks s.waits (r.records s) (no n) m h;
   }
 
 -- a call on the caller's level
@@ -163,8 +163,8 @@ module _ {C R : Type 0} (r : Room C R) (l : RoomLaws r) (asked_of : ℕ → Op �
             (cs.here t a y (subst (λ (j : ℕ). Passed r s t j a) (sym (eq_of i (no n) e)) (passed r s t (no n) a h)))
         go false e =
             let z = ne_of i (no n) e in
-            cs.elsewhere t y (o (no n)).answer _ (ap (λ (xs : List R). at r.nothing xs i) (l.records-with s _ _) ∙ (stays l s.fixed.tasks s.waits (r.records s) t (no n) a).other i z)
-            (λ d p f. ap (λ (ws : List Waiter). waiters_at (set_waits s ws) p) (l.waits-with s _ _) ∙ waits_apart l s.fixed.tasks s.waits (r.records s) t (no n) d a p (other_number l.tag (no n) i p f (λ q. z (sym q))))
+            cs.elsewhere t y (o (no n)).answer _ (ap (λ (xs : List R). at r.nothing xs i) (l.records_with s _ _) ∙ (stays l s.fixed.tasks s.waits (r.records s) t (no n) a).other i z)
+            (λ d p f. ap (λ (ws : List Waiter). waiters_at (set_waits s ws) p) (l.waits_with s _ _) ∙ waits_apart l s.fixed.tasks s.waits (r.records s) t (no n) d a p (other_number l.tag (no n) i p f (λ q. z (sym q))))
 
     by_whose : (op : Op) → (asks op).check s t ≡ none → Whose r l asked_of op → Seen (asked_of i op) (asks op)
     by_whose op h (mine n a e f) =
@@ -187,7 +187,7 @@ module _ {C R : Type 0} (r : Room C R) (l : RoomLaws r) (asked_of : ℕ → Op �
   -- a claim about all records of the room
   module _ (Q : List R → Type 0) (z : Q (r.records s)) (k : (t n : ℕ) (a : Act C) → Passed r s t n a → Q (act_on r s.fixed.tasks s.waits (r.records s) t n a).records) where
     by_records : (t : ℕ) (op : Op) → (asks op).check s t ≡ none → Whose r l asked_of op → Q (r.records ((asks op).act s t).state)
-    by_records t op h (mine n a e f) = subst (λ (x : Asks). Q (r.records (x.act s t).state)) (sym e) (subst Q (sym (l.records-with s _ _)) (k t (no n) a (passed r s t (no n) a (subst (λ (x : Asks). x.check s t ≡ none) e h))))
+    by_records t op h (mine n a e f) = subst (λ (x : Asks). Q (r.records (x.act s t).state)) (sym e) (subst Q (sym (l.records_with s _ _)) (k t (no n) a (passed r s t (no n) a (subst (λ (x : Asks). x.check s t ≡ none) e h))))
     by_records t op h (foreign g f) = subst Q (sym (g.records s t)) z
 
     pub keeps_records : (c : Call) → Q (r.records (step s c).state)
@@ -218,5 +218,5 @@ module _ {C R : Type 0} (r : Room C R) (l : RoomLaws r) (asked_of : ℕ → Op �
   vector_law i c = sees i (λ m s'. r.vector (at r.nothing (r.records s') i) ≡ vector_by m.asked m.answer.code (r.vector (at r.nothing (r.records s) i))) (record {
     refused = λ t a x e. unset a e (r.vector (at r.nothing (r.records s) i));
     elsewhere = λ t x a s' e f. ap r.vector e;
-    here = λ t a x p. ap (λ (xs : List R). r.vector (at r.nothing xs i)) (l.records-with s _ _) ∙ vectors l s.fixed.tasks s.waits (r.records s) t i a p.numbered p.there;
+    here = λ t a x p. ap (λ (xs : List R). r.vector (at r.nothing xs i)) (l.records_with s _ _) ∙ vectors l s.fixed.tasks s.waits (r.records s) t i a p.numbered p.there;
   }) c

@@ -12,7 +12,7 @@ use lib.IntN.{pos}
 use lib.ListN.{length, drop}
 use Rattle.itron.specs.Codes.{e_iluse, ok, waiting}
 use Rattle.model.specs.Lists.{at, put, cons_if, keep, All}
-use Rattle.model.specs.State.{Vector, TaskEntry, Sem, Queue, onSem, receiving, sending, Place, Waiter, Fixed, State, no_sem, no_queue, same_place}
+use Rattle.model.specs.State.{Vector, TaskEntry, Sem, Queue, on_sem, receiving, sending, Place, Waiter, Fixed, State, no_sem, no_queue, same_place}
 use Rattle.model.specs.Answers.{Answer, out}
 use Rattle.model.specs.Waits.{Patience, forever, waiters_in, by_priority, standing, stands_at, is_other, leave}
 use Rattle.model.specs.Acts.{Act, own, set_vector}
@@ -20,7 +20,7 @@ use Rattle.model.specs.Rooms.{on_records}
 use Rattle.model.specs.Semaphores as Semaphores
 use Rattle.model.specs.Semaphores.{SemaphoreCall, signal, acquire, signal_by, acquire_by}
 use Rattle.model.specs.Queues as Queues
-use Rattle.model.specs.Queues.{QueueCall, send, receive, forcedSend, send_by, receive_by, force_by}
+use Rattle.model.specs.Queues.{QueueCall, send, receive, forced_send, send_by, receive_by, force_by}
 use Rattle.model.specs.Calls.{Op, on_semaphore, on_queue, call, step}
 use Rattle.model.proofs.Lists.{no_both, eqb_same, keep_append, all_append, all_weaker, Distinct, keep_absent}
 use Rattle.model.proofs.Order.{line_in, standing_nobody, standing_heads}
@@ -130,7 +130,7 @@ put_made d g l m x = ap (λ (y : _). put (l ++ (x ∷ m)) (suc (length l)) (g y)
 module _ (f : Fixed) (qs : List Queue) (ls : List ℕ) (k : ℕ) (l m : List Sem) where
   -- the place of the semaphore, a call on it, and a state in which these tasks wait and its record is y
   abbrev pub at_sem : Place
-  at_sem = record { side = onSem; number = suc (length l) }
+  at_sem = record { side = on_sem; number = suc (length l) }
 
   abbrev pub ask_sem : Act SemaphoreCall → Op
   ask_sem a = on_semaphore (pos (suc (length l))) a
@@ -257,36 +257,36 @@ module _ (f : Fixed) (xs : List Sem) (ls : List ℕ) (k : ℕ) (l m : List Queue
     -- forced send, by request T-05
     module _ (w : ℕ) where
       force_by_lem : (ws : List Waiter) (none : Bool) (c : List Waiter) (t : Bool) → eqb x.capacity 0 ≡ none → waiters_in ws to_receive ≡ c → ltb (length x.buffer) x.capacity ≡ t
-          → Passes (queue_state ws x) (pos k) (ask_queue (own (forcedSend w)))
-          → step (queue_state ws x) (call (pos k) (ask_queue (own (forcedSend w)))) ≡ on_records Queues.room (queue_state ws x) (force_by ws (l ++ (x ∷ m)) (suc (length l)) w none c t)
+          → Passes (queue_state ws x) (pos k) (ask_queue (own (forced_send w)))
+          → step (queue_state ws x) (call (pos k) (ask_queue (own (forced_send w)))) ≡ on_records Queues.room (queue_state ws x) (force_by ws (l ++ (x ∷ m)) (suc (length l)) w none c t)
       force_by_lem ws none c t e h r p =
           let s = queue_state ws x in
           let y = nth no_queue x l m in
-          does s (pos k) (ask_queue (own (forcedSend w))) p
+          does s (pos k) (ask_queue (own (forced_send w))) p
           ∙ (λ j. on_records Queues.room s (force_by ws s.queues (suc (length l)) w (eqb (y j).capacity 0) (h j) (ltb (length (y j).buffer) (y j).capacity)))
           ∙ (λ j. on_records Queues.room s (force_by ws s.queues (suc (length l)) w (e j) c (r j)))
 
       -- "on capacity 0 it is E_ILUSE, after E_OACV, even with a waiting receiver": whoever waits, and nothing changes
-      pub force_refused : (ws : List Waiter) → x.capacity ≡ 0 → Passes (queue_state ws x) (pos k) (ask_queue (own (forcedSend w)))
-          → step (queue_state ws x) (call (pos k) (ask_queue (own (forcedSend w)))) ≡ record { answer = refuses e_iluse; state = queue_state ws x }
+      pub force_refused : (ws : List Waiter) → x.capacity ≡ 0 → Passes (queue_state ws x) (pos k) (ask_queue (own (forced_send w)))
+          → step (queue_state ws x) (call (pos k) (ask_queue (own (forced_send w)))) ≡ record { answer = refuses e_iluse; state = queue_state ws x }
       force_refused ws e p = force_by_lem ws true _ _ (holds (eq_tells x.capacity 0) e) refl refl p
 
       -- "with a waiting receiver as before"
-      pub force_hands : (c b : List Waiter) (e : Waiter) → FirstAt false f.tasks to_receive c b e → x.capacity ≢ 0 → Passes (queue_state (c ++ (e ∷ b)) x) (pos k) (ask_queue (own (forcedSend w)))
-          → step (queue_state (c ++ (e ∷ b)) x) (call (pos k) (ask_queue (own (forcedSend w)))) ≡ record { answer = answers ok 0 (with e w); state = queue_state (c ++ b) x }
+      pub force_hands : (c b : List Waiter) (e : Waiter) → FirstAt false f.tasks to_receive c b e → x.capacity ≢ 0 → Passes (queue_state (c ++ (e ∷ b)) x) (pos k) (ask_queue (own (forced_send w)))
+          → step (queue_state (c ++ (e ∷ b)) x) (call (pos k) (ask_queue (own (forced_send w)))) ≡ record { answer = answers ok 0 (with e w); state = queue_state (c ++ b) x }
       force_hands c b e h z p =
           force_by_lem (c ++ (e ∷ b)) false _ _ (fails (eq_tells x.capacity 0) z) (first_found false f.tasks to_receive c b e h).1 refl p ∙ received c b e h (answers ok 0 (with e w))
 
       -- "into room as before"
-      pub force_buffers : (ws : List Waiter) → Nobody to_receive ws → length x.buffer < x.capacity → Passes (queue_state ws x) (pos k) (ask_queue (own (forcedSend w)))
-          → step (queue_state ws x) (call (pos k) (ask_queue (own (forcedSend w)))) ≡ record { answer = answers ok 0 []; state = queue_state ws (with_buffer x (x.buffer ++ (w ∷ []))) }
+      pub force_buffers : (ws : List Waiter) → Nobody to_receive ws → length x.buffer < x.capacity → Passes (queue_state ws x) (pos k) (ask_queue (own (forced_send w)))
+          → step (queue_state ws x) (call (pos k) (ask_queue (own (forced_send w)))) ≡ record { answer = answers ok 0 []; state = queue_state ws (with_buffer x (x.buffer ++ (w ∷ []))) }
       force_buffers ws h r p =
           force_by_lem ws false [] true (fails (eq_tells x.capacity 0) (λ z. omega arith)) (nobody_found to_receive ws h) (holds (lt_tells (length x.buffer) x.capacity) r) p
           ∙ stored (λ (y : Queue). y.buffer ++ (w ∷ [])) ws (answers ok 0 [])
 
       -- "into a full buffer it drops the oldest word and appends its own": whoever waits to send stays
-      pub force_replaces : (ws : List Waiter) (z : ℕ) (b : List ℕ) → x.buffer ≡ z ∷ b → Nobody to_receive ws → x.capacity ≢ 0 → x.capacity ≤ length x.buffer → Passes (queue_state ws x) (pos k) (ask_queue (own (forcedSend w)))
-          → step (queue_state ws x) (call (pos k) (ask_queue (own (forcedSend w)))) ≡ record { answer = answers ok 0 []; state = queue_state ws (with_buffer x (b ++ (w ∷ []))) }
+      pub force_replaces : (ws : List Waiter) (z : ℕ) (b : List ℕ) → x.buffer ≡ z ∷ b → Nobody to_receive ws → x.capacity ≢ 0 → x.capacity ≤ length x.buffer → Passes (queue_state ws x) (pos k) (ask_queue (own (forced_send w)))
+          → step (queue_state ws x) (call (pos k) (ask_queue (own (forced_send w)))) ≡ record { answer = answers ok 0 []; state = queue_state ws (with_buffer x (b ++ (w ∷ []))) }
       force_replaces ws z b e h n r p =
           force_by_lem ws false [] false (fails (eq_tells x.capacity 0) n) (nobody_found to_receive ws h) (fails (lt_tells (length x.buffer) x.capacity) (λ q. omega arith)) p
           ∙ stored (λ (y : Queue). drop 1 y.buffer ++ (w ∷ [])) ws (answers ok 0 [])

@@ -309,7 +309,7 @@ module _ (s : State) (d : ℤ) (base size : ℕ) (flash ram : Image) where
 
   module _ (o q : Option Err) (l m : List ℕ) (t : Meets s d base size flash ram o l) (u : Meets s d base size flash ram q m) where
     refusals : (e : Err) → o ≡ some e → q ≡ some e → (o ≡ q) × (l ≡ m)
-    refusals e h k = (h ∙ sym k, t.none-handed e h ∙ sym (u.none-handed e k))
+    refusals e h k = (h ∙ sym k, t.none_handed e h ∙ sym (u.none_handed e k))
 
     pub one_answer : (o ≡ q) × (l ≡ m)
     one_answer = by_closed s.fixed.closed refl
@@ -317,10 +317,10 @@ module _ (s : State) (d : ℤ) (base size : ℕ) (flash ram : Image) where
         by_place : s.fixed.closed ≡ true → Lendable flash ram → verdict s d base size 2 ≡ none → (a b : Bool) → lies_in flash base size ≡ a → lies_in ram base size ≡ b → (o ≡ q) × (l ≡ m)
         by_place c n v true b f g =
             let w = (wholly_tells flash base size (ok_only s d base size 2 v).area.0.0).yes f in
-            (t.fine c n v (inl w) ∙ sym (u.fine c n v (inl w)), one_part flash base size l m (t.in-flash c n v w) (u.in-flash c n v w))
+            (t.fine c n v (inl w) ∙ sym (u.fine c n v (inl w)), one_part flash base size l m (t.in_flash c n v w) (u.in_flash c n v w))
         by_place c n v false true f g =
             let w = (wholly_tells ram base size (ok_only s d base size 2 v).area.0.0).yes g in
-            (t.fine c n v (inr w) ∙ sym (u.fine c n v (inr w)), one_part ram base size l m (t.in-ram c n v w) (u.in-ram c n v w))
+            (t.fine c n v (inr w) ∙ sym (u.fine c n v (inr w)), one_part ram base size l m (t.in_ram c n v w) (u.in_ram c n v w))
         by_place c n v false false f g =
             let z = (ok_only s d base size 2 v).area.0.0 in
             let x = (wholly_tells flash base size z).no f in

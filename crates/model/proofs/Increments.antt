@@ -11,12 +11,12 @@ use lib.IntN.{ℤ}
 use lib.ListN.{length, take}
 use Rattle.itron.specs.Codes.{Err, Code, ok, waiting, error}
 use Rattle.model.specs.Lists.{keep, any_of, gathered}
-use Rattle.model.specs.State.{Vector, onSem, receiving, sending, Waiter, State, place, queue_at, sem_at, level_at, waiter, no}
+use Rattle.model.specs.State.{Vector, on_sem, receiving, sending, Waiter, State, place, queue_at, sem_at, level_at, waiter, no}
 use Rattle.model.specs.Answers.{Info, Released, when_ok}
 use Rattle.model.specs.Waits.{Patience, waiters_in, waiters_at, leave}
 use Rattle.model.specs.Acts.{Act, own, refer, set_vector}
 use Rattle.model.specs.Semaphores.{SemaphoreCall, signal, acquire}
-use Rattle.model.specs.Queues.{QueueCall, send, receive, forcedSend}
+use Rattle.model.specs.Queues.{QueueCall, send, receive, forced_send}
 use Rattle.model.specs.ExtendedCalls.{ExtendedCall, Enter, Leave}
 use Rattle.model.specs.Calls.{Op, on_semaphore, on_queue, on_level, call}
 use Rattle.model.specs.History.{Event, History, Made, seen_by, asked_if, joined, without}
@@ -136,33 +136,33 @@ module _ (s₀ s s' found : State) (h : History) (t : ℤ) (v : ℕ) (info : Inf
     buffered_is : Demand3 s₀ h s → (queue_at s (no n)).buffer ≡ map word_of (buffered (room (no n)) (seen (no n)))
     buffered_is d = buffered_are (room (no n)) (seen (no n)) (queue_at s (no n)).buffer (d.queues (no n)).handed_are (d.queues (no n)).ordered
 
-    with_room : (w : ℕ) (rs : List Released) → length (queue_at s (no n)).buffer < (queue_at s₀ (no n)).capacity → More (on_queue n (own (forcedSend w))) ok rs
+    with_room : (w : ℕ) (rs : List Released) → length (queue_at s (no n)).buffer < (queue_at s₀ (no n)).capacity → More (on_queue n (own (forced_send w))) ok rs
         → words_of rs ++ (queue_at s' (no n)).buffer ≡ (queue_at s (no n)).buffer ++ (w ∷ [])
     with_room w rs g m =
         ap (λ (i : ℕ). map word_of (take i (buffered (room (no n)) (seen (no n)))) ++ (words_of rs ++ (queue_at s' (no n)).buffer)) (sym (finds_room (room (no n)) (seen (no n)) (queue_at s (no n)).buffer (buffered_is m.0) w g))
-        ∙ moved (no n) _ ok rs m _ (mine (own (forcedSend w)))
+        ∙ moved (no n) _ ok rs m _ (mine (own (forced_send w)))
 
-    pub force_stays : (w : ℕ) → length (queue_at s (no n)).buffer < (queue_at s₀ (no n)).capacity → More (on_queue n (own (forcedSend w))) ok [] → (queue_at s' (no n)).buffer ≡ (queue_at s (no n)).buffer ++ (w ∷ [])
+    pub force_stays : (w : ℕ) → length (queue_at s (no n)).buffer < (queue_at s₀ (no n)).capacity → More (on_queue n (own (forced_send w))) ok [] → (queue_at s' (no n)).buffer ≡ (queue_at s (no n)).buffer ++ (w ∷ [])
     force_stays w g m = with_room w [] g m
 
-    pub force_passes_lem : (w : ℕ) (r : Released) → length (queue_at s (no n)).buffer < (queue_at s₀ (no n)).capacity → More (on_queue n (own (forcedSend w))) ok (r ∷ [])
+    pub force_passes_lem : (w : ℕ) (r : Released) → length (queue_at s (no n)).buffer < (queue_at s₀ (no n)).capacity → More (on_queue n (own (forced_send w))) ok (r ∷ [])
         → r.word ∷ (queue_at s' (no n)).buffer ≡ (queue_at s (no n)).buffer ++ (w ∷ [])
     force_passes_lem w r g m = with_room w (r ∷ []) g m
 
-    pub force_drops_lem : (w : ℕ) (rs : List Released) → (queue_at s₀ (no n)).capacity ≤ length (queue_at s (no n)).buffer → More (on_queue n (own (forcedSend w))) ok rs
+    pub force_drops_lem : (w : ℕ) (rs : List Released) → (queue_at s₀ (no n)).capacity ≤ length (queue_at s (no n)).buffer → More (on_queue n (own (forced_send w))) ok rs
         → (z : ℕ) × ((l : List ℕ) × (((queue_at s (no n)).buffer ≡ z ∷ l) × (words_of rs ++ (queue_at s' (no n)).buffer ≡ l ++ (w ∷ []))))
     force_drops_lem w rs g m = one (buffered c (seen (no n))) is_oldest (buffered_is m.0)
-        (ap (λ (i : ℕ). map word_of (take i (buffered c (seen (no n)))) ++ (words_of rs ++ (queue_at s' (no n)).buffer)) (sym full) ∙ moved (no n) _ ok rs m _ (mine (own (forcedSend w))))
+        (ap (λ (i : ℕ). map word_of (take i (buffered c (seen (no n)))) ++ (words_of rs ++ (queue_at s' (no n)).buffer)) (sym full) ∙ moved (no n) _ ok rs m _ (mine (own (forced_send w))))
       where
         c : ℕ
         c = room (no n)
 
-        full : full_in c (buffered c (seen (no n))) (forcedSend w) ≡ 1
+        full : full_in c (buffered c (seen (no n))) (forced_send w) ≡ 1
         full = finds_full_lem c (seen (no n)) (queue_at s (no n)).buffer (buffered_is m.0) w g
 
         is_oldest : length (take 1 (buffered c (seen (no n)))) ≡ 1
         is_oldest = subst (λ (i : ℕ). length (take i (buffered c (seen (no n)))) ≡ i) full
-            (subst (λ (o : Option (Act QueueCall)). Queues.DropsOne c (seen_q o ok rs) (seen (no n))) (mine (own (forcedSend w))) (m.1.queues (no n)).one_each.0)
+            (subst (λ (o : Option (Act QueueCall)). Queues.DropsOne c (seen_q o ok rs) (seen (no n))) (mine (own (forced_send w))) (m.1.queues (no n)).one_each.0)
 
         one : (l : List Sent) → length (take 1 l) ≡ 1 → (queue_at s (no n)).buffer ≡ map word_of l → map word_of (take 1 l) ++ (words_of rs ++ (queue_at s' (no n)).buffer) ≡ (queue_at s (no n)).buffer ++ (w ∷ [])
             → (z : ℕ) × ((k : List ℕ) × (((queue_at s (no n)).buffer ≡ z ∷ k) × (words_of rs ++ (queue_at s' (no n)).buffer ≡ k ++ (w ∷ []))))
@@ -297,7 +297,7 @@ module _ (s₀ s s' found : State) (h : History) (t : ℤ) (v : ℕ) (info : Inf
   pub receiver_joins : (n : ℤ) (p : Patience) → More (on_queue n (own (receive p))) waiting [] → s'.waits ≡ s.waits ++ (waiter (no t) receiving (no n) 0 ∷ [])
   receiver_joins n p m = stand _ waiting [] m
 
-  pub acquirer_joins : (n : ℤ) (p : Patience) → More (on_semaphore n (own (acquire p))) waiting [] → s'.waits ≡ s.waits ++ (waiter (no t) onSem (no n) 0 ∷ [])
+  pub acquirer_joins : (n : ℤ) (p : Patience) → More (on_semaphore n (own (acquire p))) waiting [] → s'.waits ≡ s.waits ++ (waiter (no t) on_sem (no n) 0 ∷ [])
   acquirer_joins n p m = stand _ waiting [] m
 
   pub nobody_joins : (op : Op) → More op ok [] → s'.waits ≡ s.waits

@@ -121,7 +121,7 @@ no_such_object s t op k r h = id_when s t op (go op h) r (λ i. i.0 (ap no h))
     go (on_queue n a) e = tt
     go (on_level c) e = absurd (let z : ◌≡◌ {A = ℕ} 0 1 = cc in omega arith)
 
--- what counts as a refer (isRefer) is one: no own call and no set-vector does
+-- what counts as a refer (is_refer) is one: no own call and no set-vector does
 pub refers_only : {C R : Type 0} (r : Room C R) (n : ℤ) (a : Act C) → (on_object r n a).is_refer ≡ true → a ≡ refer
 refers_only r n a h = is_refer_lem a h
 

@@ -16,7 +16,7 @@ use Rattle.model.specs.Answers.{Answer, Effect, say, tells, when_waiting}
 use Rattle.model.specs.Waits.{Patience, polling, forever, stands_at, is_other, absent, waiters_in, by_priority, freed}
 use Rattle.model.specs.Acts.{Act, own, refer, set_vector}
 use Rattle.model.specs.Rooms.{act_on}
-use Rattle.model.specs.Queues.{QueueCall, send, receive, forcedSend, queue_in, set_buffer, senders_of, does, told, room}
+use Rattle.model.specs.Queues.{QueueCall, send, receive, forced_send, queue_in, set_buffer, senders_of, does, told, room}
 use Rattle.model.specs.ExtendedCalls.{ExtendedCall}
 use Rattle.model.specs.History.{Made}
 use Rattle.model.specs.Sends.{Sent, sent_as, word_of, unforced, shown, not_shown, waiting_sends, accepts, enters, handed, finds_full, buffered}
@@ -260,7 +260,7 @@ module _ (ts : List TaskEntry) (ws : List Waiter) (xs : List Queue) (t q : ℕ) 
         (first_goes line (shown (freed e 0)) y.send (waiting_sends h) y.alone y.first)
         (all_keep (NoneBefore line h) unforced (keep (shown (freed e 0)) (waiting_sends h)) (subst (All (NoneBefore line h)) (sym y.alone) (y.urgent, tt)))
 
-    replaces : (w z : ℕ) (b' : List ℕ) → c ≤ length b → b ≡ z ∷ b' → Moves c line (made (own (forcedSend w)) (say ok 0 [])) h (queue_in (set_buffer xs q (b' ++ (w ∷ []))) q).buffer
+    replaces : (w z : ℕ) (b' : List ℕ) → c ≤ length b → b ≡ z ∷ b' → Moves c line (made (own (forced_send w)) (say ok 0 [])) h (queue_in (set_buffer xs q (b' ++ (w ∷ []))) q).buffer
     replaces w z b' g f =
         let l = buffered c h in
         let p = map_parts word_of (z ∷ []) b' l (sym f ∙ words) in
@@ -288,9 +288,9 @@ module _ (ts : List TaskEntry) (ws : List Waiter) (xs : List Queue) (t q : ℕ) 
       receive_passes = λ p e l f g. releases e.word b [] e l (ap (λ (m : List ℕ). m ++ (e.word ∷ [])) (sym f)) f g p;
       receive_fails = λ f g. refused_moves line c h b words t (some (own (receive polling))) y e_tmout;
       receive_waits = λ f g. moves_none line c h b words (made (own (receive forever)) (say waiting 0 [])) b refl refl refl refl (waits_on (waiting_sends h)) refl;
-      force_misused = λ w f. refused_moves line c h b words t (some (own (forcedSend w))) y e_iluse;
-      force_passes = λ w e l n f. passes (sent_as (length h) t w true) f (made (own (forcedSend w)) (say ok 0 (freed e w))) (finds_room c h b words w (positive n f)) refl refl refl refl;
-      force_stores = λ w f g. stores (sent_as (length h) t w true) g (made (own (forcedSend w)) (say ok 0 [])) (finds_room c h b words w (ltb-true (length b) c g)) refl refl refl refl;
+      force_misused = λ w f. refused_moves line c h b words t (some (own (forced_send w))) y e_iluse;
+      force_passes = λ w e l n f. passes (sent_as (length h) t w true) f (made (own (forced_send w)) (say ok 0 (freed e w))) (finds_room c h b words w (positive n f)) refl refl refl refl;
+      force_stores = λ w f g. stores (sent_as (length h) t w true) g (made (own (forced_send w)) (say ok 0 [])) (finds_room c h b words w (ltb-true (length b) c g)) refl refl refl refl;
       force_drops = λ w z b' f g j. replaces w z b' (ltb-false (length b) c g) j;
     }) a
       where

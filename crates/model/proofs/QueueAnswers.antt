@@ -13,7 +13,7 @@ use Rattle.model.specs.State.{Vector, Waiter, State, queue_at, no}
 use Rattle.model.specs.Answers.{Answer}
 use Rattle.model.specs.Waits.{Patience, polling, forever, senders, receivers}
 use Rattle.model.specs.Acts.{own, refer, set_vector}
-use Rattle.model.specs.Queues.{send, receive, forcedSend, send_by, receive_by, force_by}
+use Rattle.model.specs.Queues.{send, receive, forced_send, send_by, receive_by, force_by}
 use Rattle.model.specs.Calls.{on_queue, call, step}
 use Rattle.model.proofs.Tests.{holds, fails, lt_tells, eq_tells}
 use Rattle.model.proofs.Answers.{Passes, answers, refuses, with, acts, first, ReferTells}
@@ -43,22 +43,22 @@ send_times_out s t n w p h k = send_full s t n w polling p h k
 
 -- Request T-05: forced send "with a waiting receiver as before; into room as before; into a full buffer it drops the oldest word and appends its own;
 -- on capacity 0 it is E_ILUSE, after E_OACV, even with a waiting receiver"
-module _ (s : State) (t n : ℤ) (w : ℕ) (p : Passes s t (on_queue n (own (forcedSend w)))) where
+module _ (s : State) (t n : ℤ) (w : ℕ) (p : Passes s t (on_queue n (own (forced_send w)))) where
   force_by_lem : (none : Bool) (l : List Waiter) (room : Bool) → eqb (queue_at s (no n)).capacity 0 ≡ none → receivers s (no n) ≡ l → ltb (length (queue_at s (no n)).buffer) (queue_at s (no n)).capacity ≡ room
-      → (step s (call t (on_queue n (own (forcedSend w))))).answer ≡ (force_by s.waits s.queues (no n) w none l room).answer
-  force_by_lem none l room e h k = acts s t (on_queue n (own (forcedSend w))) p ∙ (λ i. (force_by s.waits s.queues (no n) w (e i) (h i) (k i)).answer)
+      → (step s (call t (on_queue n (own (forced_send w))))).answer ≡ (force_by s.waits s.queues (no n) w none l room).answer
+  force_by_lem none l room e h k = acts s t (on_queue n (own (forced_send w))) p ∙ (λ i. (force_by s.waits s.queues (no n) w (e i) (h i) (k i)).answer)
 
-  pub force_misused_lem : (queue_at s (no n)).capacity ≡ 0 → (step s (call t (on_queue n (own (forcedSend w))))).answer ≡ refuses e_iluse
+  pub force_misused_lem : (queue_at s (no n)).capacity ≡ 0 → (step s (call t (on_queue n (own (forced_send w))))).answer ≡ refuses e_iluse
   force_misused_lem e = force_by_lem true _ _ (holds (eq_tells _ 0) e) refl refl
 
-  pub force_releases : (e : Waiter) (l : List Waiter) → (queue_at s (no n)).capacity ≢ 0 → receivers s (no n) ≡ e ∷ l → (step s (call t (on_queue n (own (forcedSend w))))).answer ≡ answers ok 0 (with e w)
+  pub force_releases : (e : Waiter) (l : List Waiter) → (queue_at s (no n)).capacity ≢ 0 → receivers s (no n) ≡ e ∷ l → (step s (call t (on_queue n (own (forced_send w))))).answer ≡ answers ok 0 (with e w)
   force_releases e l z h = force_by_lem false (e ∷ l) _ (fails (eq_tells _ 0) z) h refl
 
-  pub force_stores_lem : receivers s (no n) ≡ [] → length (queue_at s (no n)).buffer < (queue_at s (no n)).capacity → (step s (call t (on_queue n (own (forcedSend w))))).answer ≡ answers ok 0 []
+  pub force_stores_lem : receivers s (no n) ≡ [] → length (queue_at s (no n)).buffer < (queue_at s (no n)).capacity → (step s (call t (on_queue n (own (forced_send w))))).answer ≡ answers ok 0 []
   force_stores_lem h k = force_by_lem false [] true (fails (eq_tells (queue_at s (no n)).capacity 0) (λ z. omega (arith, k, z))) h (holds (lt_tells _ _) k)
 
   -- whoever waits to send
-  pub force_drops_lem : (queue_at s (no n)).capacity ≢ 0 → receivers s (no n) ≡ [] → (queue_at s (no n)).capacity ≤ length (queue_at s (no n)).buffer → (step s (call t (on_queue n (own (forcedSend w))))).answer ≡ answers ok 0 []
+  pub force_drops_lem : (queue_at s (no n)).capacity ≢ 0 → receivers s (no n) ≡ [] → (queue_at s (no n)).capacity ≤ length (queue_at s (no n)).buffer → (step s (call t (on_queue n (own (forced_send w))))).answer ≡ answers ok 0 []
   force_drops_lem z h k = force_by_lem false [] false (fails (eq_tells _ 0) z) h (fails (lt_tells (length (queue_at s (no n)).buffer) (queue_at s (no n)).capacity) (λ z. omega arith))
 
 -- "A buffered word: the oldest is handed out; if a sender waits, .. it is released. Empty buffer with a waiting sender (capacity 0): its word is

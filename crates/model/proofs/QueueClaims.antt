@@ -20,7 +20,7 @@ use Rattle.model.specs.Waits.{stands_at, is_other, absent, join, waiters_at, by_
 use Rattle.model.specs.Acts.{Act, own, refer, set_vector, of_own}
 use Rattle.model.specs.Rooms.{check, act_on, Asks, on_object}
 use Rattle.model.specs.Queues as Queues
-use Rattle.model.specs.Queues.{QueueCall, send, receive, forcedSend, set_buffer, room}
+use Rattle.model.specs.Queues.{QueueCall, send, receive, forced_send, set_buffer, room}
 use Rattle.model.specs.Sends.{Sent, send_in, send_of, word_of, not_shown, waiting_sends, buffered}
 use Rattle.model.specs.QueueClaims.{asked_of, by_queue, Sender, sender_of, sender_in, line_of, Rising, may_send, may_receive, SentAllowed, began, IsReceive, Came, TakenIn, TakenAllowed, Carried}
 use Rattle.model.specs.Calls.{Op, on_semaphore, on_queue, on_level, Call, asks, step}
@@ -152,7 +152,7 @@ module _ (s₀ s : State) (h : History) (i : Inv s₀ s h) where
       )),
       tt,
     )
-    begun_here t n (own (forcedSend w)) p = ((λ z. absurd (no_both z refl)), tt)
+    begun_here t n (own (forced_send w)) p = ((λ z. absurd (no_both z refl)), tt)
     begun_here t n refer p = tt
     begun_here t n (set_vector v) p = tt
 
@@ -221,7 +221,7 @@ module _ (s₀ s : State) (h : History) (i : Inv s₀ s h) where
     abbrev MayTake : ℕ → QueueCall → Type 0
     MayTake t (send a w) = Unit
     MayTake t (receive a) = T (may_receive (domain_at s₀) (queue_at s₀ q).vector t (by_queue q h))
-    MayTake t (forcedSend w) = Unit
+    MayTake t (forced_send w) = Unit
 
     took : (t : ℕ) (y : Option ExtendedCall) (c : QueueCall) → MayTake t c → (o : Effect Queue) → o ≡ Queues.does s.fixed.tasks s.waits s.queues t q c
         → when_ok Unit (TakenIn (domain_at s₀) (queue_at s₀ q).vector (record { caller = t; asked = some (own c); extended = y; answer = o.answer }) (by_queue q h) c) o.answer.code
@@ -251,7 +251,7 @@ module _ (s₀ s : State) (h : History) (i : Inv s₀ s h) where
         → TakenAllowed (domain_at s₀) (queue_at s₀ q).vector (record { caller = t; asked = some a; extended = y; answer = (act_on room s.fixed.tasks s.waits s.queues t q a).answer }) (by_queue q h)
     take_here t (own (send b w)) y p = took t y (send b w) tt (Queues.does s.fixed.tasks s.waits s.queues t q (send b w)) refl
     take_here t (own (receive b)) y p = took t y (receive b) (may_receive_lem q t p.may) (Queues.does s.fixed.tasks s.waits s.queues t q (receive b)) refl
-    take_here t (own (forcedSend w)) y p = took t y (forcedSend w) tt (Queues.does s.fixed.tasks s.waits s.queues t q (forcedSend w)) refl
+    take_here t (own (forced_send w)) y p = took t y (forced_send w) tt (Queues.does s.fixed.tasks s.waits s.queues t q (forced_send w)) refl
     take_here t refer y p = tt
     take_here t (set_vector v) y p = tt
 
@@ -275,7 +275,7 @@ module _ (s₀ s : State) (h : History) (i : Inv s₀ s h) where
     sent_here : (t : ℕ) (a : Act QueueCall) → Passed room s t q a → Sends t (of_own [] (send_in (length (by_queue q h)) t) a)
     sent_here t (own (send b w)) p = (may_send_lem q t p.may, tt)
     sent_here t (own (receive b)) p = tt
-    sent_here t (own (forcedSend w)) p = (may_send_lem q t p.may, tt)
+    sent_here t (own (forced_send w)) p = (may_send_lem q t p.may, tt)
     sent_here t refer p = tt
     sent_here t (set_vector v) p = tt
 
@@ -366,7 +366,7 @@ module _ (q : ℕ) where
     sends_here : (n : ℤ) (a : Act QueueCall) → senders_in ((on_object room n a).begins t) ≡ sends_in (asked_if (eqb q (no n)) a)
     sends_here n (own (send p w)) = begins_send n w (send p w) refl
     sends_here n (own (receive p)) = unasked (eqb q (no n)) (own (receive p)) refl
-    sends_here n (own (forcedSend w)) = begins_send n w (forcedSend w) refl
+    sends_here n (own (forced_send w)) = begins_send n w (forced_send w) refl
     sends_here n refer = unasked (eqb q (no n)) refer refl
     sends_here n (set_vector v) = unasked (eqb q (no n)) (set_vector v) refl
 

@@ -13,12 +13,12 @@ use Rattle.access.specs.Vectors.{pattern_of}
 use Rattle.itron.specs.Codes.{Err, error, e_oacv, e_iluse, e_tmout, waiting}
 pub use Rattle.model.specs.Conditions.{QView, qview, qview_of, QueueOk}
 use Rattle.model.specs.Lists.{All}
-use Rattle.model.specs.State.{Vector, TaskEntry, Queue, Waiter, State, Place, Side, onSem, receiving, sending, place, waiter, no_queue, zero_vector}
+use Rattle.model.specs.State.{Vector, TaskEntry, Queue, Waiter, State, Place, Side, on_sem, receiving, sending, place, waiter, no_queue, zero_vector}
 use Rattle.model.specs.Answers.{Effect, effect, say}
 use Rattle.model.specs.Waits.{Patience, polling, forever, waiters_in, by_priority, order_of, leave, join, refusal, wakes, gives}
 use Rattle.model.specs.Acts.{Act, own, refer, set_vector, operation_of}
 use Rattle.model.specs.Rooms.{act_on}
-use Rattle.model.specs.Queues.{QueueCall, send, receive, forcedSend, operation, queue_in, set_buffer, has_room, senders_of, begins, serves, send_by, receive_by, force_by, does, room}
+use Rattle.model.specs.Queues.{QueueCall, send, receive, forced_send, operation, queue_in, set_buffer, has_room, senders_of, begins, serves, send_by, receive_by, force_by, does, room}
 use Rattle.model.specs.QueueClaims.{pattern_for}
 use Rattle.model.specs.Conditions.{Plain, Registered}
 use Rattle.model.proofs.Lists.{Distinct, cons_ne, eq_of, ne_of, at_put_same, at_put_keep}
@@ -110,7 +110,7 @@ via e k = subst QueueOk (sym e) k
 pub governs : (v : Vector) (a : Act QueueCall) → pattern_of v (operation_of operation a) ≡ pattern_for v a
 governs v (own (send p w)) = refl
 governs v (own (receive p)) = refl
-governs v (own (forcedSend w)) = refl
+governs v (own (forced_send w)) = refl
 governs v refer = refl
 governs v (set_vector w) = refl
 
@@ -126,7 +126,7 @@ view_in ws xs q = qview (queue_in xs q).capacity (queue_in xs q).buffer (waiters
 
 -- ---- in which order those who wait at one stand
 abbrev pub order_on : List Queue → Side → ℕ → Bool
-order_on xs onSem q = false
+order_on xs on_sem q = false
 order_on xs receiving q = false
 order_on xs sending q = by_priority (queue_in xs q).attribute
 
@@ -137,7 +137,7 @@ pub order_at : (s : State) (p : Place) → room_of p.side ≡ tag → order s.qu
 order_at s p h = go p.side h
   where
     go : (d : Side) → room_of d ≡ tag → order_on s.queues d p.number ≡ order_of s d p.number
-    go onSem e = absurd (let z : ◌≡◌ {A = ℕ} 0 1 = e in omega arith)
+    go on_sem e = absurd (let z : ◌≡◌ {A = ℕ} 0 1 = e in omega arith)
     go receiving e = refl
     go sending e = refl
 
@@ -156,12 +156,12 @@ module _ (ts : List TaskEntry) (ws : List Waiter) (xs : List Queue) (t q : ℕ) 
     pub receive_passes : (p : Patience) (e : Waiter) (l : List Waiter) → (queue_in xs q).buffer ≡ [] → senders_of ts ws xs q ≡ e ∷ l → P (receive p) (wakes ws xs e e.word 0)
     pub receive_fails : (queue_in xs q).buffer ≡ [] → senders_of ts ws xs q ≡ [] → P (receive polling) (refusal ws xs e_tmout)
     pub receive_waits : (queue_in xs q).buffer ≡ [] → senders_of ts ws xs q ≡ [] → P (receive forever) (effect (say waiting 0 []) (join (waiter t receiving q 0) ws) xs)
-    pub force_misused : (w : ℕ) → (queue_in xs q).capacity ≡ 0 → P (forcedSend w) (refusal ws xs e_iluse)
-    pub force_passes : (w : ℕ) (e : Waiter) (l : List Waiter) → (queue_in xs q).capacity ≢ 0 → waiters_in ws (place receiving q) ≡ e ∷ l → P (forcedSend w) (wakes ws xs e 0 w)
+    pub force_misused : (w : ℕ) → (queue_in xs q).capacity ≡ 0 → P (forced_send w) (refusal ws xs e_iluse)
+    pub force_passes : (w : ℕ) (e : Waiter) (l : List Waiter) → (queue_in xs q).capacity ≢ 0 → waiters_in ws (place receiving q) ≡ e ∷ l → P (forced_send w) (wakes ws xs e 0 w)
     pub force_stores : (w : ℕ) → waiters_in ws (place receiving q) ≡ [] → ltb (length (queue_in xs q).buffer) (queue_in xs q).capacity ≡ true
-        → P (forcedSend w) (gives ws (set_buffer xs q ((queue_in xs q).buffer ++ (w ∷ []))) 0)
+        → P (forced_send w) (gives ws (set_buffer xs q ((queue_in xs q).buffer ++ (w ∷ []))) 0)
     pub force_drops : (w z : ℕ) (b : List ℕ) → waiters_in ws (place receiving q) ≡ [] → ltb (length (queue_in xs q).buffer) (queue_in xs q).capacity ≡ false → (queue_in xs q).buffer ≡ z ∷ b
-        → P (forcedSend w) (gives ws (set_buffer xs q (b ++ (w ∷ []))) 0)
+        → P (forced_send w) (gives ws (set_buffer xs q (b ++ (w ∷ []))) 0)
 
   module _ (P : QueueCall → Effect Queue → Type 0) (cs : Cases P) where
     pub cover : (c : QueueCall) → P c (does ts ws xs t q c)
@@ -180,15 +180,15 @@ module _ (ts : List TaskEntry) (ws : List Waiter) (xs : List Queue) (t q : ℕ) 
         go p [] (e ∷ l) h k = cs.receive_passes p e l h k
         go polling [] [] h k = cs.receive_fails h k
         go forever [] [] h k = cs.receive_waits h k
-    cover (forcedSend w) = go (eqb (queue_in xs q).capacity 0) (waiters_in ws (place receiving q)) (has_room (queue_in xs q)) refl refl refl
+    cover (forced_send w) = go (eqb (queue_in xs q).capacity 0) (waiters_in ws (place receiving q)) (has_room (queue_in xs q)) refl refl refl
       where
         -- what is full and has a capacity has an oldest word
         full : (b : List ℕ) → (queue_in xs q).buffer ≡ b → (queue_in xs q).capacity ≢ 0 → waiters_in ws (place receiving q) ≡ [] → has_room (queue_in xs q) ≡ false
-            → P (forcedSend w) (gives ws (set_buffer xs q (drop 1 b ++ (w ∷ []))) 0)
+            → P (forced_send w) (gives ws (set_buffer xs q (drop 1 b ++ (w ∷ []))) 0)
         full [] e n h k = absurd (n (omega (arith, ltb-false (length (queue_in xs q).buffer) (queue_in xs q).capacity k, ap length e)))
         full (z ∷ b) e n h k = cs.force_drops w z b h k e
 
-        go : (none : Bool) (l : List Waiter) (room : Bool) → eqb (queue_in xs q).capacity 0 ≡ none → waiters_in ws (place receiving q) ≡ l → has_room (queue_in xs q) ≡ room → P (forcedSend w) (force_by ws xs q w none l room)
+        go : (none : Bool) (l : List Waiter) (room : Bool) → eqb (queue_in xs q).capacity 0 ≡ none → waiters_in ws (place receiving q) ≡ l → has_room (queue_in xs q) ≡ room → P (forced_send w) (force_by ws xs q w none l room)
         go true l room n h k = cs.force_misused w (eq_of _ 0 n)
         go false (e ∷ l) room n h k = cs.force_passes w e l (ne_of _ 0 n) h
         go false [] true n h k = cs.force_stores w h k
@@ -271,17 +271,17 @@ module _ (ts : List TaskEntry) (ws : List Waiter) (xs : List Queue) (t q : ℕ) 
 pub begins_mine : (t q : ℕ) (c : QueueCall) → All (λ (e : Waiter). is_at tag q e.place ≡ true) (begins t q c)
 begins_mine t q (send p w) = (is_at_lem tag q (place sending q) refl refl, tt)
 begins_mine t q (receive p) = (is_at_lem tag q (place receiving q) refl refl, tt)
-begins_mine t q (forcedSend w) = (is_at_lem tag q (place sending q) refl refl, tt)
+begins_mine t q (forced_send w) = (is_at_lem tag q (place sending q) refl refl, tt)
 
 pub begins_plain : (s : State) (t q : ℕ) → q ≢ 0 → q ≤ length s.queues → (c : QueueCall) → All (λ (e : Waiter). Plain e × Registered s e) (begins t q c)
 begins_plain s t q h r (send p w) = (((h, tt), r), tt)
 begins_plain s t q h r (receive p) = (((h, refl), r), tt)
-begins_plain s t q h r (forcedSend w) = (((h, tt), r), tt)
+begins_plain s t q h r (forced_send w) = (((h, tt), r), tt)
 
 pub serves_no : (q : ℕ) (e : Err) (c : QueueCall) → serves q c (error e) ≡ none
 serves_no q e (send p w) = refl
 serves_no q e (receive p) = refl
-serves_no q e (forcedSend w) = refl
+serves_no q e (forced_send w) = refl
 
 abbrev pub laws : RoomLaws room
 laws = record {

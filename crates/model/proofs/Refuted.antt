@@ -1,6 +1,6 @@
 -- What demand 3 shuts out: for each such thing a history of answers that it refutes. Closed computations; assumes nothing.
 use mathlib.Core.Path.{◌≡◌, refl, ap}
-use mathlib.Core.Logic.{inl}
+use mathlib.Core.Logic.{inl, inr}
 use mathlib.Core.Bool.{Bool, true, false}
 use mathlib.Core.List.{List, [], ◌∷◌, ◌++◌, map}
 use mathlib.Core.Option.{none, some}
@@ -13,12 +13,12 @@ use Rattle.itron.specs.Limits.{min_unit}
 use Rattle.access.specs.Patterns.{admitted}
 use Rattle.itron.specs.Codes.{Err, Code, ok, waiting, error, e_sys, e_oacv, e_qovr, e_tmout}
 use Rattle.model.specs.Lists.{at, gathered}
-use Rattle.model.specs.State.{Vector, TaskEntry, Queue, onSem, receiving, sending, Place, Waiter, State, state_with, set_waits, set_sems, set_queues, set_levels, place, side_number, waiter}
+use Rattle.model.specs.State.{Vector, TaskEntry, Queue, on_sem, receiving, sending, Place, Waiter, State, state_with, set_waits, set_sems, set_queues, set_levels, place, side_number, waiter}
 use Rattle.model.specs.Answers.{Released, say}
 use Rattle.model.specs.Waits.{polling, forever}
 use Rattle.model.specs.Acts.{own, set_vector}
 use Rattle.model.specs.Semaphores.{SemaphoreCall, signal, acquire}
-use Rattle.model.specs.Queues.{QueueCall, send, receive, forcedSend}
+use Rattle.model.specs.Queues.{QueueCall, send, receive, forced_send}
 use Rattle.model.specs.ExtendedCalls.{Enter, Leave}
 use Rattle.model.specs.Calls.{Op, on_semaphore, on_queue, on_level, call}
 use Rattle.model.specs.History.{Event, History, Made, asked_if}
@@ -227,7 +227,7 @@ second_sender_lost d = let e : ◌≡◌ {A = ℕ} 1 2 = ap length ((d.queues 1)
 
 -- ---- where every word is (request T-05); queue 1 has room for two words
 abbrev forces : ℕ → ℕ → Event
-forces t w = did t (on_queue (pos 1) (own (forcedSend w))) ok 0 []
+forces t w = did t (on_queue (pos 1) (own (forced_send w))) ok 0 []
 
 abbrev full : History
 full = sends 1 701 ∷ sends 1 700 ∷ []
@@ -268,7 +268,7 @@ abbrev awaits : ℕ → Event
 awaits t = did t (on_queue (pos 1) (own (receive forever))) waiting 0 []
 
 abbrev passes_0 : History
-passes_0 = did 1 (on_queue (pos 1) (own (forcedSend 700))) ok 0 (released 3 700) ∷ awaits 3 ∷ []
+passes_0 = did 1 (on_queue (pos 1) (own (forced_send 700))) ok 0 (released 3 700) ∷ awaits 3 ∷ []
 
 pub forced_past_0 : Demand3 small passes_0 small → ⊥
 forced_past_0 d = let e : ◌≡◌ {A = ℕ} 0 1 = (d.queues 1).one_each.0 in omega arith
@@ -277,15 +277,15 @@ pub forced_past_0_before : Demand3 small (did 1 (on_queue (pos 1) (set_vector (f
 forced_past_0_before d = let e : ◌≡◌ {A = ℕ} 0 1 = (d.queues 1).one_each.1.0 in omega arith
 
 -- the oldest handed out to a receiver and not dropped
-pub handed_not_dropped : Claims (did 1 (on_queue (pos 1) (own (forcedSend 702))) ok 0 (released 3 700) ∷ sends 1 701 ∷ sends 1 700 ∷ awaits 3 ∷ []) (701 ∷ 702 ∷ []) → ⊥
+pub handed_not_dropped : Claims (did 1 (on_queue (pos 1) (own (forced_send 702))) ok 0 (released 3 700) ∷ sends 1 701 ∷ sends 1 700 ∷ awaits 3 ∷ []) (701 ∷ 702 ∷ []) → ⊥
 handed_not_dropped d = let e : ◌≡◌ {A = ℕ} 4 3 = ap length (d.queues 1).ordered in omega arith
 
 -- a forced send that is accepted by "waiting" drops too
-pub waits_and_drops_none : Demand3 start (did 3 (on_queue (pos 1) (own (forcedSend 702))) waiting 0 [] ∷ full) (table (waiter 3 sending 1 702 ∷ []) 0 (700 ∷ 701 ∷ [])) → ⊥
+pub waits_and_drops_none : Demand3 start (did 3 (on_queue (pos 1) (own (forced_send 702))) waiting 0 [] ∷ full) (table (waiter 3 sending 1 702 ∷ []) 0 (700 ∷ 701 ∷ [])) → ⊥
 waits_and_drops_none d = let e : ◌≡◌ {A = ℕ} 3 2 = ap length (d.queues 1).ordered in omega arith
 
 -- a refused one does not
-pub refused_and_dropped : Claims (did 1 (on_queue (pos 1) (own (forcedSend 702))) (error e_oacv) 0 [] ∷ full) (701 ∷ 702 ∷ []) → ⊥
+pub refused_and_dropped : Claims (did 1 (on_queue (pos 1) (own (forced_send 702))) (error e_oacv) 0 [] ∷ full) (701 ∷ 702 ∷ []) → ⊥
 refused_and_dropped d = let e : ◌≡◌ {A = ℕ} 701 700 = ap (λ (l : List ℕ). get_or l 0 0) (d.queues 1).ordered in omega arith
 
 -- a denied force
@@ -293,7 +293,7 @@ pub denied_force : Claims (forces 2 700 ∷ []) (700 ∷ []) → ⊥
 unfolding admitted
 denied_force d = (d.queues 1).senders_allowed.0.0
 
-pub denied_taker_of_force : Claims (did 1 (on_queue (pos 1) (own (forcedSend 700))) ok 0 (released 2 700) ∷ did 2 (on_queue (pos 1) (own (receive forever))) waiting 0 [] ∷ []) [] → ⊥
+pub denied_taker_of_force : Claims (did 1 (on_queue (pos 1) (own (forced_send 700))) ok 0 (released 2 700) ∷ did 2 (on_queue (pos 1) (own (receive forever))) waiting 0 [] ∷ []) [] → ⊥
 unfolding admitted
 denied_taker_of_force d = (d.queues 1).takers_allowed.0.0.1
 
@@ -322,7 +322,7 @@ in_no_place d = let e : ◌≡◌ {A = ℕ} 0 1 = (d.queues 1).placed 0 in omega
 pub in_no_place_after_force : Claims (did 4 (on_queue (pos 1) (own (receive forever))) waiting 0 (released 1 0) ∷ forces 3 5 ∷ waits ∷ []) (5 ∷ []) → ⊥
 in_no_place_after_force d = let e : ◌≡◌ {A = ℕ} 0 1 = (d.queues 1).placed 0 in omega arith
 
-pub forced_in_no_place : Claims (did 4 (on_queue (pos 1) (set_vector (for 1))) ok 0 (released 3 0) ∷ did 3 (on_queue (pos 1) (own (forcedSend 5))) waiting 0 [] ∷ []) [] → ⊥
+pub forced_in_no_place : Claims (did 4 (on_queue (pos 1) (set_vector (for 1))) ok 0 (released 3 0) ∷ did 3 (on_queue (pos 1) (own (forced_send 5))) waiting 0 [] ∷ []) [] → ⊥
 forced_in_no_place d = let e : ◌≡◌ {A = ℕ} 0 1 = (d.queues 1).placed 0 in omega arith
 
 -- one word for two receivers
@@ -343,13 +343,13 @@ waiter_forgotten d = let e : ◌≡◌ {A = ℕ} 0 1 = ap length d.waiters_are i
 pub receiver_forgotten : Claims (did 3 (on_queue (pos 1) (own (receive forever))) waiting 0 [] ∷ []) [] → ⊥
 receiver_forgotten d = let e : ◌≡◌ {A = ℕ} 0 1 = ap length d.waiters_are in omega arith
 
-pub waits_at_another : Demand3 start (acquires 3 ∷ []) (table (waiter 3 onSem 2 0 ∷ []) 0 []) → ⊥
+pub waits_at_another : Demand3 start (acquires 3 ∷ []) (table (waiter 3 on_sem 2 0 ∷ []) 0 []) → ⊥
 waits_at_another d = let e : ◌≡◌ {A = ℕ} 2 1 = ap (λ (l : List Waiter). get_or (map (λ (x : Waiter). x.place.number) l) 0 0) d.waiters_are in omega arith
 
-pub waiters_swapped : Demand3 start (acquires 1 ∷ acquires 3 ∷ []) (table (waiter 1 onSem 1 0 ∷ waiter 3 onSem 1 0 ∷ []) 0 []) → ⊥
+pub waiters_swapped : Demand3 start (acquires 1 ∷ acquires 3 ∷ []) (table (waiter 1 on_sem 1 0 ∷ waiter 3 on_sem 1 0 ∷ []) 0 []) → ⊥
 waiters_swapped d = let e : ◌≡◌ {A = ℕ} 1 3 = ap (λ (l : List Waiter). get_or (map (λ (x : Waiter). x.task) l) 0 0) d.waiters_are in omega arith
 
-pub waits_uncalled : Demand3 start [] (table (waiter 3 onSem 1 0 ∷ []) 0 []) → ⊥
+pub waits_uncalled : Demand3 start [] (table (waiter 3 on_sem 1 0 ∷ []) 0 []) → ⊥
 waits_uncalled d = let e : ◌≡◌ {A = ℕ} 1 0 = ap length d.waiters_are in omega arith
 
 -- ---- a release belongs to a wait
@@ -372,14 +372,16 @@ released_unasked_before d = d.releases.1.0.each.0.waited
 pub released_from_another_side : Claims (did 1 (on_semaphore (pos 1) (own signal)) ok 0 (released 3 0) ∷ did 3 (on_queue (pos 1) (own (receive forever))) waiting 0 [] ∷ []) [] → ⊥
 released_from_another_side d = go d.releases.0.each.0.waited
   where
-    go : WaitsAt (some (place onSem 1)) 3 (waiter 3 receiving 1 0 ∷ []) → ⊥
+    go : WaitsAt (some (place on_sem 1)) 3 (waiter 3 receiving 1 0 ∷ []) → ⊥
     go (inl x) = let e : ◌≡◌ {A = ℕ} 1 0 = ap (λ (p : Place). side_number p.side) x.1 in omega arith
+    go (inr x) = elim x [ ]
 
 pub released_from_another : Claims (did 1 (on_semaphore (pos 2) (own signal)) ok 0 (released 3 0) ∷ acquires 3 ∷ []) [] → ⊥
 released_from_another d = go d.releases.0.each.0.waited
   where
-    go : WaitsAt (some (place onSem 2)) 3 (waiter 3 onSem 1 0 ∷ []) → ⊥
+    go : WaitsAt (some (place on_sem 2)) 3 (waiter 3 on_sem 1 0 ∷ []) → ⊥
     go (inl x) = let e : ◌≡◌ {A = ℕ} 1 2 = ap (λ (p : Place). p.number) x.1 in omega arith
+    go (inr x) = elim x [ ]
 
 -- by a call that serves nobody
 pub released_by_poll : Claims (did 1 (on_semaphore (pos 1) (own (acquire polling))) ok 0 (released 3 0) ∷ acquires 3 ∷ []) [] → ⊥

@@ -13,7 +13,7 @@ use Rattle.model.specs.Waits.{stands_at, is_other, waiters_in, waiters_at, order
 use Rattle.model.specs.Acts.{own, refer, set_vector}
 use Rattle.model.specs.Rooms.{Asks}
 use Rattle.model.specs.Semaphores.{signal, acquire}
-use Rattle.model.specs.Queues.{send, receive, forcedSend}
+use Rattle.model.specs.Queues.{send, receive, forced_send}
 use Rattle.model.specs.Calls.{Op, on_semaphore, on_queue, on_level, Call, asks, step}
 use Rattle.model.specs.History.{event, after, history}
 use Rattle.model.specs.Releases.{served_by, WaitsAt, WaitsNot, EndsWait, Once, ReleasesWaiters}
@@ -31,7 +31,7 @@ served_is (on_semaphore n refer) = refl
 served_is (on_semaphore n (set_vector v)) = refl
 served_is (on_queue n (own (send p w))) = refl
 served_is (on_queue n (own (receive p))) = refl
-served_is (on_queue n (own (forcedSend w))) = refl
+served_is (on_queue n (own (forced_send w))) = refl
 served_is (on_queue n refer) = refl
 served_is (on_queue n (set_vector v)) = refl
 served_is (on_level c) = refl

@@ -12,7 +12,7 @@ use lib.ListN.{length}
 use Rattle.access.specs.Vectors.{pattern_of}
 use Rattle.itron.specs.Codes.{Err, e_ctx, e_id, e_par, e_noexs, e_oacv, Code, ok, waiting, error}
 use Rattle.model.specs.Lists.{at, All}
-use Rattle.model.specs.State.{Vector, TaskEntry, Waiter, Side, onSem, receiving, sending, Place, State, set_waits, set_levels, running_at, no}
+use Rattle.model.specs.State.{Vector, TaskEntry, Waiter, Side, on_sem, receiving, sending, Place, State, set_waits, set_levels, running_at, no}
 use Rattle.model.specs.Answers.{when_ok, when_accepted}
 use Rattle.model.specs.Waits.{absent, waiters_in, standing, order_of, first_task}
 use Rattle.model.specs.Acts.{Act, own, refer, set_vector, of_own, operation_of, is_refer}
@@ -26,7 +26,7 @@ use Rattle.model.proofs.Endings.{SameBut, same_all, same_put, Ends, frame, keeps
 
 -- ---- whose a place is: the room of its side, and its number
 abbrev pub room_of : Side → ℕ
-room_of onSem = 0
+room_of on_sem = 0
 room_of receiving = 1
 room_of sending = 1
 
@@ -166,17 +166,17 @@ module _ {C R : Type 0} {r : Room C R} (l : RoomLaws r) (ts : List TaskEntry) (w
   pub stays : (a : Act C) → SameBut r.nothing l.bare n xs (act_on r ts ws xs t n a).records
   stays (own c) =
       let k = own_keeps c in
-      record { other = k.other; entries = λ i. sym (l.bare-entry _) ∙ ap l.bare (k.entries i) ∙ l.bare-entry _; count = k.count }
+      record { other = k.other; entries = λ i. sym (l.bare_entry _) ∙ ap l.bare (k.entries i) ∙ l.bare_entry _; count = k.count }
   stays refer = same_all r.nothing l.bare n xs
-  stays (set_vector v) = same_put r.nothing l.bare n xs _ (l.bare-vector _ v)
+  stays (set_vector v) = same_put r.nothing l.bare n xs _ (l.bare_vector _ v)
 
   -- the vector of its object is the one that was set, if one was
   pub vectors : (a : Act C) → n ≢ 0 → n ≤ length xs → r.vector (at r.nothing (act_on r ts ws xs t n a).records n) ≡ vector_by (some a) (act_on r ts ws xs t n a).answer.code (r.vector (at r.nothing xs n))
   vectors (own c) h b =
-      sym (l.vector-entry _) ∙ ap r.vector ((own_keeps c).entries n) ∙ l.vector-entry _
+      sym (l.vector_entry _) ∙ ap r.vector ((own_keeps c).entries n) ∙ l.vector_entry _
       ∙ sym (ok_same (r.vector (at r.nothing xs n)) (r.does ts ws xs t n c).answer.code)
   vectors refer h b = refl
-  vectors (set_vector v) h b = ap r.vector (at_put_same r.nothing xs n _ h b) ∙ l.vector-set _ v
+  vectors (set_vector v) h b = ap r.vector (at_put_same r.nothing xs n _ h b) ∙ l.vector_set _ v
 
   -- who passes the checks is not denied
   pub act_not_denied : (a : Act C) → (act_on r ts ws xs t n a).answer.code ≡ error e_oacv → ⊥
@@ -200,7 +200,7 @@ module _ {C R D S : Type 0} (r : Room C R) (k : ℕ) {q : Room D S} (l : RoomLaw
   pub stranger : (n : ℤ) (a : Act D) → Stranger r k (on_object q n a)
   stranger n a = record {
     records = λ s t. apart s _ _;
-    waits = λ s t e p h. ap (λ (ws : List Waiter). waiters_in ws p) (l.waits-with s _ _) ∙ waits_apart l s.fixed.tasks s.waits (q.records s) t (no n) e a p (other_room k l.tag (no n) p h d);
+    waits = λ s t e p h. ap (λ (ws : List Waiter). waiters_in ws p) (l.waits_with s _ _) ∙ waits_apart l s.fixed.tasks s.waits (q.records s) t (no n) e a p (other_room k l.tag (no n) p h d);
     begins = λ t. own_all (All (λ (e : Waiter). room_of e.place.side ≢ k)) (q.begins t (no n)) tt (λ c. begun (q.begins t (no n) c) (l.begun t (no n) c)) a;
   }
     where

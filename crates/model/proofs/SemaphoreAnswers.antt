@@ -7,7 +7,7 @@ use native.Mathlib.Omega.{arith}
 use lib.Dec.{leb}
 use lib.IntN.{ℤ}
 use Rattle.itron.specs.Codes.{e_qovr, e_tmout, ok, waiting}
-use Rattle.model.specs.State.{Vector, Waiter, State, place, onSem, sem_at, no}
+use Rattle.model.specs.State.{Vector, Waiter, State, place, on_sem, sem_at, no}
 use Rattle.model.specs.Answers.{Answer}
 use Rattle.model.specs.Waits.{Patience, polling, forever, wait_queue}
 use Rattle.model.specs.Acts.{own, refer, set_vector}
@@ -18,17 +18,17 @@ use Rattle.model.proofs.Answers.{Passes, answers, refuses, with, acts, first, Re
 
 -- "With waiters, the first is released with E_OK .. Otherwise at max: E_QOVR. Otherwise count plus 1."
 module _ (s : State) (t n : ℤ) (p : Passes s t (on_semaphore n (own signal))) where
-  signal_by_lem : (l : List Waiter) (full : Bool) → wait_queue s (place onSem (no n)) ≡ l → leb (sem_at s (no n)).max (sem_at s (no n)).count ≡ full
+  signal_by_lem : (l : List Waiter) (full : Bool) → wait_queue s (place on_sem (no n)) ≡ l → leb (sem_at s (no n)).max (sem_at s (no n)).count ≡ full
       → (step s (call t (on_semaphore n (own signal)))).answer ≡ (signal_by s.waits s.sems (no n) l full).answer
   signal_by_lem l full h k = acts s t (on_semaphore n (own signal)) p ∙ (λ i. (signal_by s.waits s.sems (no n) (h i) (k i)).answer)
 
-  pub signal_releases : (e : Waiter) (l : List Waiter) → wait_queue s (place onSem (no n)) ≡ e ∷ l → (step s (call t (on_semaphore n (own signal)))).answer ≡ answers ok 0 (with e 0)
+  pub signal_releases : (e : Waiter) (l : List Waiter) → wait_queue s (place on_sem (no n)) ≡ e ∷ l → (step s (call t (on_semaphore n (own signal)))).answer ≡ answers ok 0 (with e 0)
   signal_releases e l h = signal_by_lem (e ∷ l) _ h refl
 
-  pub signal_counts_lem : wait_queue s (place onSem (no n)) ≡ [] → (sem_at s (no n)).count < (sem_at s (no n)).max → (step s (call t (on_semaphore n (own signal)))).answer ≡ answers ok 0 []
+  pub signal_counts_lem : wait_queue s (place on_sem (no n)) ≡ [] → (sem_at s (no n)).count < (sem_at s (no n)).max → (step s (call t (on_semaphore n (own signal)))).answer ≡ answers ok 0 []
   signal_counts_lem h k = signal_by_lem [] false h (fails (le_tells (sem_at s (no n)).max (sem_at s (no n)).count) (λ z. omega arith))
 
-  pub signal_at_max : wait_queue s (place onSem (no n)) ≡ [] → (sem_at s (no n)).max ≤ (sem_at s (no n)).count → (step s (call t (on_semaphore n (own signal)))).answer ≡ refuses e_qovr
+  pub signal_at_max : wait_queue s (place on_sem (no n)) ≡ [] → (sem_at s (no n)).max ≤ (sem_at s (no n)).count → (step s (call t (on_semaphore n (own signal)))).answer ≡ refuses e_qovr
   signal_at_max h k = signal_by_lem [] true h (holds (le_tells _ _) k)
 
 -- "Count above 0: minus 1, E_OK. Otherwise poll gives E_TMOUT; wait .. answers "waiting"."
@@ -55,6 +55,6 @@ set_semaphore_done s t n v p = acts s t (on_semaphore n (set_vector v)) p
 
 -- "Semaphore: first waiter (0 if none), count, vector."
 pub refer_semaphore : (s : State) (t n : ℤ) → Passes s t (on_semaphore n refer)
-    → ReferTells (step s (call t (on_semaphore n refer))).answer (wait_queue s (place onSem (no n))) [] (sem_at s (no n)).count (sem_at s (no n)).vector
-refer_semaphore s t n p = subst (λ (a : Answer). ReferTells a (wait_queue s (place onSem (no n))) [] (sem_at s (no n)).count (sem_at s (no n)).vector) (sym (acts s t (on_semaphore n refer) p))
-    (record { code = refl; word = refl; released = refl; first = first (wait_queue s (place onSem (no n))); second = refl; counted = refl; patterns = refl })
+    → ReferTells (step s (call t (on_semaphore n refer))).answer (wait_queue s (place on_sem (no n))) [] (sem_at s (no n)).count (sem_at s (no n)).vector
+refer_semaphore s t n p = subst (λ (a : Answer). ReferTells a (wait_queue s (place on_sem (no n))) [] (sem_at s (no n)).count (sem_at s (no n)).vector) (sym (acts s t (on_semaphore n refer) p))
+    (record { code = refl; word = refl; released = refl; first = first (wait_queue s (place on_sem (no n))); second = refl; counted = refl; patterns = refl })

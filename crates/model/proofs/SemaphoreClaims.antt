@@ -8,7 +8,7 @@ use lib.ListN.{length}
 use borrow.Author.Tests.{leb-false}
 use Rattle.itron.specs.Codes.{Code}
 use Rattle.model.specs.Lists.{All}
-use Rattle.model.specs.State.{TaskEntry, Sem, Waiter, onSem, State, place, no_sem, sem_at}
+use Rattle.model.specs.State.{TaskEntry, Sem, Waiter, on_sem, State, place, no_sem, sem_at}
 use Rattle.model.specs.Answers.{when_ok}
 use Rattle.model.specs.Waits.{waiters_in, by_priority}
 use Rattle.model.specs.Acts.{Act, own, refer, set_vector}
@@ -82,18 +82,18 @@ within_step s w c i = sees room laws asked_of whose s i (λ m s'. (sem_at s' i).
 
 -- ---- who waits on a semaphore finds its count at 0
 abbrev SpentIn : List Waiter → List Sem → ℕ → Type 0
-SpentIn ws xs i = (waiters_in ws (place onSem i) ≡ []) ⊎ ((sem_in xs i).count ≡ 0)
+SpentIn ws xs i = (waiters_in ws (place on_sem i) ≡ []) ⊎ ((sem_in xs i).count ≡ 0)
 
-spent_same : (ws us : List Waiter) (xs ys : List Sem) (i : ℕ) → waiters_in us (place onSem i) ≡ waiters_in ws (place onSem i) → (sem_in ys i).count ≡ (sem_in xs i).count → SpentIn ws xs i → SpentIn us ys i
+spent_same : (ws us : List Waiter) (xs ys : List Sem) (i : ℕ) → waiters_in us (place on_sem i) ≡ waiters_in ws (place on_sem i) → (sem_in ys i).count ≡ (sem_in xs i).count → SpentIn ws xs i → SpentIn us ys i
 spent_same ws us xs ys i w c (inl h) = inl (w ∙ h)
 spent_same ws us xs ys i w c (inr h) = inr (c ∙ h)
 
 -- the one that is called
 module _ (ts : List TaskEntry) (ws : List Waiter) (xs : List Sem) (t i : ℕ) (k : SpentIn ws xs i) where
-  nobody : (m : ℕ) → (sem_in xs i).count ≡ suc m → waiters_in ws (place onSem i) ≡ []
+  nobody : (m : ℕ) → (sem_in xs i).count ≡ suc m → waiters_in ws (place on_sem i) ≡ []
   nobody m h = go k
     where
-      go : SpentIn ws xs i → waiters_in ws (place onSem i) ≡ []
+      go : SpentIn ws xs i → waiters_in ws (place on_sem i) ≡ []
       go (inl e) = e
       go (inr e) = absurd (omega (arith, e, h))
 
@@ -101,7 +101,7 @@ module _ (ts : List TaskEntry) (ws : List Waiter) (xs : List Sem) (t i : ℕ) (k
   zero_now h = go k
     where
       go : SpentIn ws xs i → (sem_in xs i).count ≡ 0
-      go (inl z) = absurd (standing_first (by_priority (sem_in xs i).attribute) ts (waiters_in ws (place onSem i)) h z)
+      go (inl z) = absurd (standing_first (by_priority (sem_in xs i).attribute) ts (waiters_in ws (place on_sem i)) h z)
       go (inr z) = z
 
   spent_here : (a : Act SemaphoreCall) → SpentIn (act_on room ts ws xs t i a).waits (act_on room ts ws xs t i a).records i
@@ -110,7 +110,7 @@ module _ (ts : List TaskEntry) (ws : List Waiter) (xs : List Sem) (t i : ℕ) (k
   spent_here (own c) = cover ts ws xs t i (λ c o. SpentIn o.waits o.records i) (record {
     signal_wakes = λ e l h. inr (zero_now h);
     signal_full = λ h r. k;
-    signal_counts = λ h r. inl (standing_none (by_priority (sem_in xs i).attribute) ts (waiters_in ws (place onSem i)) h);
+    signal_counts = λ h r. inl (standing_none (by_priority (sem_in xs i).attribute) ts (waiters_in ws (place on_sem i)) h);
     acquires = λ p m h. inl (nobody m h);
     poll_fails = λ h. k;
     acquire_waits = λ h. inr h;
@@ -119,7 +119,7 @@ module _ (ts : List TaskEntry) (ws : List Waiter) (xs : List Sem) (t i : ℕ) (k
 pub spent_step : (s : State) → Distinct s.waits → ((i : ℕ) → Spent s i) → (i : ℕ) (c : Call) → Spent (step s c).state i
 spent_step s d k i c = sees room laws asked_of whose s i (λ m s'. Spent s' i) (record {
   refused = λ t a x e. k i;
-  elsewhere = λ t x a s' e f. spent_same s.waits s'.waits s.sems s'.sems i (f d (place onSem i) (is_at_lem laws.tag i (place onSem i) refl refl)) (ap (λ (z : Sem). z.count) e) (k i);
+  elsewhere = λ t x a s' e f. spent_same s.waits s'.waits s.sems s'.sems i (f d (place on_sem i) (is_at_lem laws.tag i (place on_sem i) refl refl)) (ap (λ (z : Sem). z.count) e) (k i);
   here = λ t a x p. spent_here s.fixed.tasks s.waits s.sems t i (k i) a;
 }) c
 

@@ -11,7 +11,7 @@ use lib.ListN.{length}
 use Rattle.access.specs.Vectors.{pattern_of}
 use Rattle.itron.specs.Codes.{Err, error, e_qovr, e_tmout, waiting}
 use Rattle.model.specs.Lists.{All}
-use Rattle.model.specs.State.{Vector, TaskEntry, Sem, Waiter, State, Place, Side, receiving, sending, onSem, place, waiter, no_sem, zero_vector}
+use Rattle.model.specs.State.{Vector, TaskEntry, Sem, Waiter, State, Place, Side, receiving, sending, on_sem, place, waiter, no_sem, zero_vector}
 use Rattle.model.specs.Answers.{Effect, effect, say, when_ok}
 use Rattle.model.specs.Waits.{Patience, polling, forever, waiters_in, by_priority, order_of, join, refusal, wakes, gives}
 use Rattle.model.specs.Acts.{Act, own, refer, set_vector, of_own, operation_of}
@@ -27,7 +27,7 @@ use Rattle.model.proofs.Rooms.{room_of, is_at, is_at_lem, RoomLaws}
 
 -- which room it is
 abbrev tag : ℕ
-tag = room_of onSem
+tag = room_of on_sem
 
 -- ---- "Signal .. [is] normal operation 1. Poll, wait .. are normal operation 2. Set-vector is management, refer is reference"
 pub governs : (v : Vector) (a : Act SemaphoreCall) → pattern_of v (operation_of operation a) ≡ pattern_for v a
@@ -45,7 +45,7 @@ bare x = record { domain = x.domain; attribute = x.attribute; max = x.max; count
 
 -- ---- in which order those who wait for one stand
 abbrev pub order_on : List Sem → Side → ℕ → Bool
-order_on xs onSem i = by_priority (sem_in xs i).attribute
+order_on xs on_sem i = by_priority (sem_in xs i).attribute
 order_on xs receiving i = false
 order_on xs sending i = false
 
@@ -56,7 +56,7 @@ pub order_at : (s : State) (p : Place) → room_of p.side ≡ tag → order s.se
 order_at s p h = go p.side h
   where
     go : (d : Side) → room_of d ≡ tag → order_on s.sems d p.number ≡ order_of s d p.number
-    go onSem e = refl
+    go on_sem e = refl
     go receiving e = refl
     go sending e = absurd (let z : ◌≡◌ {A = ℕ} 1 0 = e in omega arith)
 
@@ -68,7 +68,7 @@ module _ (ts : List TaskEntry) (ws : List Waiter) (xs : List Sem) (t i : ℕ) wh
     pub signal_counts : waiters_of ts ws xs i ≡ [] → leb (sem_in xs i).max (sem_in xs i).count ≡ false → P signal (gives ws (set_count xs i (suc (sem_in xs i).count)) 0)
     pub acquires : (p : Patience) (k : ℕ) → (sem_in xs i).count ≡ suc k → P (acquire p) (gives ws (set_count xs i k) 0)
     pub poll_fails : (sem_in xs i).count ≡ 0 → P (acquire polling) (refusal ws xs e_tmout)
-    pub acquire_waits : (sem_in xs i).count ≡ 0 → P (acquire forever) (effect (say waiting 0 []) (join (waiter t onSem i 0) ws) xs)
+    pub acquire_waits : (sem_in xs i).count ≡ 0 → P (acquire forever) (effect (say waiting 0 []) (join (waiter t on_sem i 0) ws) xs)
 
   module _ (P : SemaphoreCall → Effect Sem → Type 0) (cs : Cases P) where
     pub cover : (c : SemaphoreCall) → P c (does ts ws xs t i c)
@@ -90,12 +90,12 @@ module _ (ts : List TaskEntry) (ws : List Waiter) (xs : List Sem) (t i : ℕ) wh
 
   pub ends : (c : SemaphoreCall) → Ends Sem ts ws xs t (is_at tag i) (order xs) (SameBut no_sem entry i xs) (begins t i c) (serves i c) (does ts ws xs t i c)
   ends c = cover EndsSo (record {
-    signal_wakes = λ e l h. Endings.wakes xs (place onSem i) e l 0 0 (same_all no_sem entry i xs) (is_at_lem tag i (place onSem i) refl refl) refl h;
+    signal_wakes = λ e l h. Endings.wakes xs (place on_sem i) e l 0 0 (same_all no_sem entry i xs) (is_at_lem tag i (place on_sem i) refl refl) refl h;
     signal_full = λ h r. Endings.refused e_qovr (λ q. let z : ◌≡◌ {A = ℕ} 0 1 = cc in omega arith);
-    signal_counts = λ h r. Endings.gives _ 0 (same_put no_sem entry i xs _ refl) (standing_none (by_priority (sem_in xs i).attribute) ts (waiters_in ws (place onSem i)) h);
+    signal_counts = λ h r. Endings.gives _ 0 (same_put no_sem entry i xs _ refl) (standing_none (by_priority (sem_in xs i).attribute) ts (waiters_in ws (place on_sem i)) h);
     acquires = λ p k h. Endings.gives _ 0 (same_put no_sem entry i xs _ refl) tt;
     poll_fails = λ h. Endings.refused e_tmout (λ q. let z : ◌≡◌ {A = ℕ} 0 1 = cc in omega arith);
-    acquire_waits = λ h. Endings.waits (waiter t onSem i 0) refl (is_at_lem tag i (place onSem i) refl refl) refl tt;
+    acquire_waits = λ h. Endings.waits (waiter t on_sem i 0) refl (is_at_lem tag i (place on_sem i) refl refl) refl tt;
   }) c
 
   -- count + grants = count before + accepted signals
@@ -122,7 +122,7 @@ module _ (ts : List TaskEntry) (ws : List Waiter) (xs : List Sem) (t i : ℕ) wh
 -- ---- the room
 pub begins_mine : (t i : ℕ) (c : SemaphoreCall) → All (λ (e : Waiter). is_at tag i e.place ≡ true) (begins t i c)
 begins_mine t i signal = tt
-begins_mine t i (acquire p) = (is_at_lem tag i (place onSem i) refl refl, tt)
+begins_mine t i (acquire p) = (is_at_lem tag i (place on_sem i) refl refl, tt)
 
 pub begins_plain : (s : State) (t i : ℕ) → i ≢ 0 → i ≤ length s.sems → (c : SemaphoreCall) → All (λ (e : Waiter). Plain e × Registered s e) (begins t i c)
 begins_plain s t i h r signal = tt
@@ -151,6 +151,6 @@ laws = record {
   begun = begins_mine;
   plain = begins_plain;
   unserved = serves_no;
-  told_first = λ ts ws xs i m h. h (by_priority (sem_in xs i).attribute) (place onSem i);
+  told_first = λ ts ws xs i m h. h (by_priority (sem_in xs i).attribute) (place on_sem i);
   told_second = λ ts ws xs i m h. omega arith;
 }

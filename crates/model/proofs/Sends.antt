@@ -11,7 +11,7 @@ use Rattle.itron.specs.Codes.{Code, ok, waiting, error}
 use Rattle.model.specs.Lists.{All, keep, cons_if, words, Each, gathered}
 use Rattle.model.specs.Answers.{when_accepted}
 use Rattle.model.specs.Acts.{Act, own, refer, set_vector}
-use Rattle.model.specs.Queues.{QueueCall, send, receive, forcedSend}
+use Rattle.model.specs.Queues.{QueueCall, send, receive, forced_send}
 use Rattle.model.specs.History.{Made}
 use Rattle.model.specs.Sends.{Sent, send_of, word_of, unforced, times, Before, Ascending, accepts, accepted, accepted_of, waiting_sends, withdrawn, enters, entered, handed, full_in, finds_full, present, buffered, drops, dropped, hands, handed_out, leaves}
 use Rattle.model.specs.State.{Waiter}
@@ -106,10 +106,10 @@ module _ (c : ℕ) where
     as_long : length b ≡ length (buffered c h)
     as_long = ap length e ∙ length-map (buffered c h) word_of
 
-    pub finds_room : length b < c → full_in c (buffered c h) (forcedSend w) ≡ 0
+    pub finds_room : length b < c → full_in c (buffered c h) (forced_send w) ≡ 0
     finds_room g = ap (λ (y : Bool). cond {A = ℕ} y 1 0) (fails (le_tells c (length (buffered c h))) (λ z. omega (arith, g, z, as_long)))
 
-    pub finds_full_lem : c ≤ length b → full_in c (buffered c h) (forcedSend w) ≡ 1
+    pub finds_full_lem : c ≤ length b → full_in c (buffered c h) (forced_send w) ≡ 1
     finds_full_lem g = ap (λ (y : Bool). cond {A = ℕ} y 1 0) (holds (le_tells c (length (buffered c h))) (omega (arith, g, as_long)))
 
 -- ---- the accepted sends, in call order
@@ -126,7 +126,7 @@ send_of_lem m h = go m.asked
     by : (a : Act QueueCall) → Of (length h) (send_of (record { caller = m.caller; asked = some a; extended = m.extended; answer = m.answer }) h)
     by (own (send p w)) = ((refl, tt), omega arith)
     by (own (receive p)) = none_of (length h)
-    by (own (forcedSend w)) = ((refl, tt), omega arith)
+    by (own (forced_send w)) = ((refl, tt), omega arith)
     by refer = none_of (length h)
     by (set_vector v) = none_of (length h)
 

@@ -5,7 +5,7 @@ use mathlib.Core.List.{List, [], ◌∷◌}
 use Prim.Native.Nat.{ℕ, ◌≤◌}
 use Rattle.itron.specs.Codes.{e_ctx}
 use Rattle.model.specs.Lists.{All}
-use Rattle.model.specs.State.{Side, onSem, receiving, sending, Waiter, Fixed, State, no_levels, set_fixed, no}
+use Rattle.model.specs.State.{Side, on_sem, receiving, sending, Waiter, Fixed, State, no_levels, set_fixed, no}
 use Rattle.model.specs.Answers.{Out, refuse}
 use Rattle.model.specs.Waits.{is_other}
 use Rattle.model.specs.Rooms.{Asks}
@@ -36,8 +36,8 @@ pub fit_step : (s : State) (c : Call) → Fit s → Fit (step s c).state
 fit_step s c f = record {
   waits = subst (λ (x : Fixed). WaitsFit x.tasks (step s c).state.waits) (sym (fixed_law s c)) (ends s (WaitsLaw s) (waits_ends s f.waits) c);
   levels = levels_step s f.levels c;
-  sems = rw (Semaphores.entries-law s c).1 f.sems;
-  queues = Queues.queues-step s f.queues c;
+  sems = rw (Semaphores.entries_law s c).1 f.sems;
+  queues = Queues.queues_step s f.queues c;
   regions = subst (λ (x : Fixed). RegionsFit x.regions) (sym (fixed_law s c)) f.regions;
 }
 
@@ -46,8 +46,8 @@ entries_step : (s : State) (c : Call) → EntriesFit s → EntriesFit (step s c)
 entries_step s c f = subst (λ (x : Fixed). EntriesFit (set_fixed (step s c).state x)) (sym (fixed_law s c)) (record {
   domains = f.domains;
   tasks = f.tasks;
-  sems = Semaphores.entries-step s s.fixed.count f.sems c;
-  queues = Queues.entries-step s s.fixed.count f.queues c;
+  sems = Semaphores.entries_step s s.fixed.count f.sems c;
+  queues = Queues.entries_step s s.fixed.count f.queues c;
   regions = f.regions;
 })
 
@@ -66,9 +66,9 @@ registered_ends s f = record {
 
 -- a call registers no object and removes none
 side_count_lem : (s : State) (c : Call) (d : Side) → side_count (step s c).state d ≡ side_count s d
-side_count_lem s c onSem = (Semaphores.entries-law s c).1
-side_count_lem s c receiving = (Queues.entries-law s c).1
-side_count_lem s c sending = (Queues.entries-law s c).1
+side_count_lem s c on_sem = (Semaphores.entries_law s c).1
+side_count_lem s c receiving = (Queues.entries_law s c).1
+side_count_lem s c sending = (Queues.entries_law s c).1
 
 registered_step : (s : State) (c : Call) → All (Registered s) s.waits → All (Registered (step s c).state) (step s c).state.waits
 registered_step s c f = go (step s c).state.waits (ends s (RegisteredLaw s) (registered_ends s f) c)
@@ -80,7 +80,7 @@ registered_step s c f = go (step s c).state.waits (ends s (RegisteredLaw s) (reg
 -- ---- an open table answers no call
 pub open_refuses : (s : State) (c : Call) → s.fixed.closed ≡ false → step s c ≡ refuse s e_ctx
 unfolding step
-open_refuses s c h = ap (act_if s (no c.caller) (asks c.op)) ((lawful c.op).closed-first s (no c.caller) h)
+open_refuses s c h = ap (act_if s (no c.caller) (asks c.op)) ((lawful c.op).closed_first s (no c.caller) h)
 
 -- what an open table has it keeps
 still_open : (s : State) (c : Call) (P : State → Type 0) → (s.fixed.closed ≡ false → P s) → (step s c).state.fixed.closed ≡ false → P (step s c).state
@@ -94,8 +94,8 @@ sound_step s c k = record {
   entries = entries_step s c k.entries;
   registered = registered_step s c k.registered;
   within = Semaphores.within_step s k.within c;
-  spent = λ i. Semaphores.spent-step s k.fit.waits.distinct k.spent i c;
-  fine = λ q. Queues.fine-law s k.fit.waits.distinct q (k.fine q) c;
+  spent = λ i. Semaphores.spent_step s k.fit.waits.distinct k.spent i c;
+  fine = λ q. Queues.fine_law s k.fit.waits.distinct q (k.fine q) c;
   unit = subst UnitFits (sym (fixed_law s c)) k.unit;
   quiet = still_open s c (λ (x : State). x.waits ≡ []) k.quiet;
   empty = still_open s c (λ (x : State). All NoWords x.queues) k.empty;

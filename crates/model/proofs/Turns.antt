@@ -11,7 +11,7 @@ use lib.ListN.{length, drop, length-drop}
 use lib.Seq.{drop-drop, drop-length}
 use Rattle.itron.specs.Codes.{ok, waiting, error}
 use Rattle.model.specs.Lists.{cons_if, total}
-use Rattle.model.specs.State.{Place, Waiter, State, Side, onSem, receiving, sending, Sem, Queue, place, set_waits, sem_at, queue_at, same_place}
+use Rattle.model.specs.State.{Place, Waiter, State, Side, on_sem, receiving, sending, Sem, Queue, place, set_waits, sem_at, queue_at, same_place}
 use Rattle.model.specs.Answers.{Answer, Out, say, tells}
 use Rattle.model.specs.Waits.{stands_at, waiters_in, waiters_at, by_priority, standing, order_of, wait_queue, leave, join, freed}
 use Rattle.model.specs.Rooms.{Asks}
@@ -27,7 +27,7 @@ use Rattle.model.proofs.SemaphoreClaims as Semaphores
 use Rattle.model.proofs.QueueClaims as Queues
 
 -- ---- those who wait stand as they came at an object with attribute 0, and to receive from any queue
-pub semaphore_first_come : (s : State) (i : ℕ) → (sem_at s i).attribute ≡ 0 → FirstCome s (place onSem i)
+pub semaphore_first_come : (s : State) (i : ℕ) → (sem_at s i).attribute ≡ 0 → FirstCome s (place on_sem i)
 semaphore_first_come s i h = ap by_priority h
 
 pub senders_first_come : (s : State) (q : ℕ) → (queue_at s q).attribute ≡ 0 → FirstCome s (place sending q)
@@ -37,7 +37,7 @@ pub receivers_first_come : (s : State) (q : ℕ) → FirstCome s (place receivin
 receivers_first_come s q = refl
 
 -- and by priority at an object with attribute 1
-pub semaphore_by_priority : (s : State) (i : ℕ) → (sem_at s i).attribute ≡ 1 → order_of s onSem i ≡ true
+pub semaphore_by_priority : (s : State) (i : ℕ) → (sem_at s i).attribute ≡ 1 → order_of s on_sem i ≡ true
 semaphore_by_priority s i h = ap by_priority h
 
 pub senders_by_priority : (s : State) (q : ℕ) → (queue_at s q).attribute ≡ 1 → order_of s sending q ≡ true
@@ -45,9 +45,9 @@ senders_by_priority s q h = ap by_priority h
 
 -- ---- no call changes the order at a place
 order_law : (s : State) (c : Call) (d : Side) (n : ℕ) → order_of (step s c).state d n ≡ order_of s d n
-order_law s c onSem n = ap (λ (x : Sem). by_priority x.attribute) ((Semaphores.entries-law s c).0 n)
+order_law s c on_sem n = ap (λ (x : Sem). by_priority x.attribute) ((Semaphores.entries_law s c).0 n)
 order_law s c receiving n = refl
-order_law s c sending n = ap (λ (x : Queue). by_priority x.attribute) ((Queues.entries-law s c).0 n)
+order_law s c sending n = ap (λ (x : Queue). by_priority x.attribute) ((Queues.entries_law s c).0 n)
 
 first_come_after : (s : State) (p : Place) → FirstCome s p → (cs : List Call) → FirstCome (after s cs) p
 unfolding after

@@ -6,19 +6,19 @@ use mathlib.Core.List.{List, [], ◌∷◌, ◌++◌, append-nil}
 use Prim.Native.Nat.{ℕ, zero, suc}
 use lib.Dec.{eqb}
 use Rattle.model.specs.Lists.{cons_if}
-use Rattle.model.specs.State.{TaskEntry, Waiter, Place, Side, onSem, receiving, sending, place, side_number, same_side, same_place}
+use Rattle.model.specs.State.{TaskEntry, Waiter, Place, Side, on_sem, receiving, sending, place, side_number, same_side, same_place}
 use Rattle.model.specs.Waits.{stands_at, is_other, waiters_in, standing, leave, join}
 use Rattle.model.proofs.Lists.{eq_of, and_left, and_right, both, eqb_same, eqb_no, keep_append, keep_comm, Distinct, distinct_keep, leave_other}
 use Rattle.model.proofs.Order.{standing_leaves, standing_came}
 
 -- ---- places
 abbrev side_at : ℕ → Side
-side_at zero = onSem
+side_at zero = on_sem
 side_at (suc zero) = receiving
 side_at (suc (suc n)) = sending
 
 side_back : (d : Side) → side_at (side_number d) ≡ d
-side_back onSem = refl
+side_back on_sem = refl
 side_back receiving = refl
 side_back sending = refl
 

@@ -3,7 +3,7 @@ use Rattle.std.specs.Prelude.{◌≡◌, ◌≢◌, ◌⊎◌, true, false, List
 use Rattle.std.specs.Int.{◌∣◌}
 use Rattle.itron.specs.Limits.{max_domains, max_tasks, max_priority, max_level, max_semaphores, max_queues, max_regions, max_words, max_capacity, max_count, address_end}
 use Rattle.model.specs.Lists.{All}
-use Rattle.model.specs.State.{TaskEntry, Sem, Waiter, Fixed, Side, onSem, receiving, sending, State, Queue, Region, no_levels, place, queue_at, sem_at}
+use Rattle.model.specs.State.{TaskEntry, Sem, Waiter, Fixed, Side, on_sem, receiving, sending, State, Queue, Region, no_levels, place, queue_at, sem_at}
 use Rattle.model.specs.Waits.{waiters_at, absent}
 use Rattle.model.specs.Queues.{words_used}
 use Rattle.model.specs.Units.{unit_ok}
@@ -21,7 +21,7 @@ Known n e = (e.task ≢ 0) × (e.task ≤ n)
 
 -- it waits for a numbered object, and has a word only if it sends
 abbrev pub WordFits : Side → ℕ → Type 0
-WordFits onSem w = w ≡ 0
+WordFits on_sem w = w ≡ 0
 WordFits receiving w = w ≡ 0
 WordFits sending w = Unit
 
@@ -126,7 +126,7 @@ pub record EntriesFit (s : State) : Type 0 where
 -- ---- who waits, waits at a registered object
 -- how many objects there are at which a task can wait on a side
 abbrev pub side_count : State → Side → ℕ
-side_count s onSem = length s.sems
+side_count s on_sem = length s.sems
 side_count s receiving = length s.queues
 side_count s sending = length s.queues
 
@@ -138,7 +138,7 @@ abbrev pub Within : State → Type 0
 Within s = (i : ℕ) → (sem_at s i).count ≤ (sem_at s i).max
 
 abbrev pub Spent : State → ℕ → Type 0
-Spent s i = (waiters_at s (place onSem i) ≡ []) ⊎ ((sem_at s i).count ≡ 0)
+Spent s i = (waiters_at s (place on_sem i) ≡ []) ⊎ ((sem_at s i).count ≡ 0)
 
 -- nothing is buffered
 abbrev pub NoWords : Queue → Type 0

@@ -6,7 +6,7 @@ use Rattle.model.specs.Lists.{All, keep, Each, gathered}
 use Rattle.model.specs.State.{Vector, Queue, Side, receiving, sending, Waiter, no}
 use Rattle.model.specs.Answers.{Released, when_ok, when_waiting}
 use Rattle.model.specs.Acts.{Act, own, refer, set_vector}
-use Rattle.model.specs.Queues.{QueueCall, send, receive, forcedSend}
+use Rattle.model.specs.Queues.{QueueCall, send, receive, forced_send}
 use Rattle.model.specs.Calls.{Op, on_semaphore, on_queue, on_level}
 use Rattle.model.specs.History.{History, Made, seen_by, asked_if, of_asked, vector_since}
 use Rattle.model.specs.LevelClaims.{running_when}
@@ -25,7 +25,7 @@ by_queue q h = map (seen_by (asked_of q)) h
 abbrev pub pattern_for : Vector → Act QueueCall → ℕ
 pattern_for v (own (send p w)) = v.normal1
 pattern_for v (own (receive p)) = v.normal2
-pattern_for v (own (forcedSend w)) = v.normal1
+pattern_for v (own (forced_send w)) = v.normal1
 pattern_for v refer = v.reference
 pattern_for v (set_vector w) = v.management
 
@@ -56,7 +56,7 @@ Rising (k ∷ l) = All (λ (n : ℕ). k ≤ n) l × Rising l
 abbrev pub served_in : QueueCall → Option Side
 served_in (send p w) = some receiving
 served_in (receive p) = some sending
-served_in (forcedSend w) = some receiving
+served_in (forced_send w) = some receiving
 
 -- a call of task t that answered "waiting"
 abbrev pub began : ℕ → Made QueueCall → Bool
@@ -65,7 +65,7 @@ began t m = when_waiting false true m.answer.code && eqb t m.caller
 abbrev pub IsReceive : QueueCall → Type 0
 IsReceive (send p w) = ⊥
 IsReceive (receive p) = Unit
-IsReceive (forcedSend w) = ⊥
+IsReceive (forced_send w) = ⊥
 
 -- ---- who may: `domain` gives each task's, and the queue began with the vector v
 module _ (domain : ℕ → ℤ) (v : Vector) where
@@ -91,7 +91,7 @@ module _ (domain : ℕ → ℤ) (v : Vector) where
   abbrev pub TakenIn : Made QueueCall → List (Made QueueCall) → QueueCall → Type 0
   TakenIn m h (send p w) = All (λ (r : Released). Came r.task h) m.answer.released
   TakenIn m h (receive p) = T (may_receive m.caller h)
-  TakenIn m h (forcedSend w) = All (λ (r : Released). Came r.task h) m.answer.released
+  TakenIn m h (forced_send w) = All (λ (r : Released). Came r.task h) m.answer.released
 
   abbrev pub TakenAllowed : Made QueueCall → List (Made QueueCall) → Type 0
   TakenAllowed m h = when_ok Unit (of_asked Unit (TakenIn m h) m.asked) m.answer.code

@@ -8,7 +8,7 @@ use Rattle.access.specs.declared.vector.Operation.TheVariants.{Normal1, Normal2}
 use Rattle.itron.specs.Codes.{Code, e_iluse}
 use Rattle.itron.specs.Limits.{max_capacity, max_queues, max_words}
 pub use Rattle.model.specs.declared.dtq.QueueCall.{QueueCall}
-pub use Rattle.model.specs.declared.dtq.QueueCall.TheVariants.{Send as send, Receive as receive, ForcedSend as forcedSend}
+pub use Rattle.model.specs.declared.dtq.QueueCall.TheVariants.{Send as send, Receive as receive, ForcedSend as forced_send}
 use Rattle.model.specs.declared.dtq.QueueRequest.{QueueRequest}
 use Rattle.model.specs.declared.dtq.QueueRequest.TheVariants as Request
 use Rattle.model.specs.Lists.{at, put}
@@ -23,7 +23,7 @@ use Rattle.model.specs.Rooms.{Room}
 abbrev pub operation : QueueCall → Operation
 operation (send p w) = Normal1
 operation (receive p) = Normal2
-operation (forcedSend w) = Normal1
+operation (forced_send w) = Normal1
 
 -- besides the checks of every call there are none
 abbrev pub slots : List Waiter → List Queue → ℕ → QueueCall → Slots
@@ -33,14 +33,14 @@ slots ws xs q c = clear
 abbrev pub begins : ℕ → ℕ → QueueCall → List Waiter
 begins t q (send p w) = waiter t sending q w ∷ []
 begins t q (receive p) = waiter t receiving q 0 ∷ []
-begins t q (forcedSend w) = waiter t sending q w ∷ []
+begins t q (forced_send w) = waiter t sending q w ∷ []
 
 -- for a receiver the accepted call of the opposite kind is a send of any kind, for a sender a receive;
 -- a send is accepted also when it answers "waiting", a receive when it answers E_OK
 abbrev pub serves : ℕ → QueueCall → Code → Option Place
 serves q (send p w) k = when_accepted none (some (place receiving q)) k
 serves q (receive p) k = when_ok none (some (place sending q)) k
-serves q (forcedSend w) k = when_accepted none (some (place receiving q)) k
+serves q (forced_send w) k = when_accepted none (some (place receiving q)) k
 
 -- what the program is asked for
 abbrev pub act_of : QueueRequest → Act QueueCall
@@ -120,7 +120,7 @@ on_force ws xs q w = force_by ws xs q w (eqb (queue_in xs q).capacity 0) (waiter
 abbrev pub does : List TaskEntry → List Waiter → List Queue → ℕ → ℕ → QueueCall → Effect Queue
 does ts ws xs t q (send p w) = on_send ws xs t q w p
 does ts ws xs t q (receive p) = on_receive ts ws xs t q p
-does ts ws xs t q (forcedSend w) = on_force ws xs q w
+does ts ws xs t q (forced_send w) = on_force ws xs q w
 
 -- refer: first waiting sender, first waiting receiver, number of buffered words, vector
 abbrev pub told : List TaskEntry → List Waiter → List Queue → ℕ → Info

@@ -2,7 +2,7 @@
 use Rattle.std.specs.Prelude.{◌≡◌, List, map, ℕ, ◌+◌, eqb, length}
 use Rattle.std.proofs.Math.Option.{Option, none, some}
 use Rattle.model.specs.Lists.{total}
-use Rattle.model.specs.State.{Vector, Side, onSem, no}
+use Rattle.model.specs.State.{Vector, Side, on_sem, no}
 use Rattle.model.specs.Answers.{Released, when_ok}
 use Rattle.model.specs.Acts.{Act, own, refer, set_vector}
 use Rattle.model.specs.Semaphores.{SemaphoreCall, signal, acquire}
@@ -44,7 +44,7 @@ grants m = when_ok 0 (of_asked 0 (grant_in m.answer.released) m.asked) m.answer.
 
 -- whom a call serves: a signal who waits for the semaphore
 abbrev pub served_in : SemaphoreCall → Option Side
-served_in signal = some onSem
+served_in signal = some on_sem
 served_in (acquire p) = none
 
 -- ---- demand 3: count + grants = start + accepted signals

@@ -12,7 +12,7 @@ pub use Rattle.model.specs.declared.sem.SemaphoreCall.TheVariants.{Signal as sig
 use Rattle.model.specs.declared.sem.SemaphoreRequest.{SemaphoreRequest}
 use Rattle.model.specs.declared.sem.SemaphoreRequest.TheVariants as Request
 use Rattle.model.specs.Lists.{at, put}
-use Rattle.model.specs.State.{Vector, TaskEntry, Sem, Waiter, Place, onSem, place, waiter, no_sem, set_waits, set_sems}
+use Rattle.model.specs.State.{Vector, TaskEntry, Sem, Waiter, Place, on_sem, place, waiter, no_sem, set_waits, set_sems}
 use Rattle.model.specs.Answers.{Effect, Info, when_ok}
 use Rattle.model.specs.Waits.{Patience, waiters_in, is_order, by_priority, standing, first_task, refusal, wakes, or_waits, gives}
 use Rattle.model.specs.Acts.{Act, own, refer, set_vector, Slots, clear}
@@ -31,11 +31,11 @@ slots ws xs i c = clear
 -- the wait that a call of task t begins, if it answers "waiting"
 abbrev pub begins : ℕ → ℕ → SemaphoreCall → List Waiter
 begins t i signal = []
-begins t i (acquire p) = waiter t onSem i 0 ∷ []
+begins t i (acquire p) = waiter t on_sem i 0 ∷ []
 
 -- for who waits, the accepted call of the opposite kind is a signal
 abbrev pub serves : ℕ → SemaphoreCall → Code → Option Place
-serves i signal k = when_ok none (some (place onSem i)) k
+serves i signal k = when_ok none (some (place on_sem i)) k
 serves i (acquire p) k = none
 
 -- what the program is asked for
@@ -66,7 +66,7 @@ set_count xs i k = put xs i (record { domain = (sem_in xs i).domain; attribute =
 
 -- the wait queue of a semaphore
 abbrev pub waiters_of : List TaskEntry → List Waiter → List Sem → ℕ → List Waiter
-waiters_of ts ws xs i = standing (by_priority (sem_in xs i).attribute) ts (waiters_in ws (place onSem i))
+waiters_of ts ws xs i = standing (by_priority (sem_in xs i).attribute) ts (waiters_in ws (place on_sem i))
 
 -- ---- the calls, once the checks are passed
 -- with waiters, the first is released with E_OK and the count stays; otherwise at max E_QOVR; otherwise count plus 1
@@ -81,7 +81,7 @@ on_signal ts ws xs i = signal_by ws xs i (waiters_of ts ws xs i) (leb (sem_in xs
 -- poll and wait by task t: count above 0: minus 1, E_OK; otherwise poll gives E_TMOUT and wait waits, the last to come
 abbrev pub acquire_by : List Waiter → List Sem → ℕ → ℕ → Patience → ℕ → Effect Sem
 acquire_by ws xs t i p (suc k) = gives ws (set_count xs i k) 0
-acquire_by ws xs t i p zero = or_waits ws xs p (waiter t onSem i 0)
+acquire_by ws xs t i p zero = or_waits ws xs p (waiter t on_sem i 0)
 
 abbrev pub on_acquire : List Waiter → List Sem → ℕ → ℕ → Patience → Effect Sem
 on_acquire ws xs t i p = acquire_by ws xs t i p (sem_in xs i).count

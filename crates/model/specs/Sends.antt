@@ -2,7 +2,7 @@
 use Rattle.std.specs.Prelude.{Bool, true, false, cond, not, List, [], ◌∷◌, ◌++◌, map, ℕ, ◌<◌, eqb, leb, length, take, drop}
 use Rattle.model.specs.Lists.{All, keep, any_of, gathered}
 use Rattle.model.specs.Answers.{Released, Answer, when_ok, when_waiting, when_accepted}
-use Rattle.model.specs.Queues.{QueueCall, send, receive, forcedSend}
+use Rattle.model.specs.Queues.{QueueCall, send, receive, forced_send}
 use Rattle.model.specs.History.{Made, of_asked}
 
 -- ---- a send: its call, told by the number of all calls before it, on whatever object, which no other call shares; its task, its word, and whether it is forced
@@ -18,7 +18,7 @@ sent_as k t w f = record { call = k; task = t; word = w; forced = f }
 abbrev pub send_in : ℕ → ℕ → QueueCall → List Sent
 send_in k t (send p w) = sent_as k t w false ∷ []
 send_in k t (receive p) = []
-send_in k t (forcedSend w) = sent_as k t w true ∷ []
+send_in k t (forced_send w) = sent_as k t w true ∷ []
 
 -- the send that a call after the calls h is, if it is one
 abbrev pub send_of : Made QueueCall → List (Made QueueCall) → List Sent
@@ -77,7 +77,7 @@ withdrawn h = []
 abbrev pub enters_in : List Sent → List Sent → QueueCall → List Sent
 enters_in own freed (send p w) = own
 enters_in own freed (receive p) = freed
-enters_in own freed (forcedSend w) = own
+enters_in own freed (forced_send w) = own
 
 abbrev pub enters : Made QueueCall → List (Made QueueCall) → List Sent
 enters m h = when_ok [] (of_asked [] (enters_in (send_of m h) (freed_by m h)) m.asked) m.answer.code
@@ -93,7 +93,7 @@ words_of rs = map (λ (r : Released). r.word) rs
 abbrev pub handed_in : Answer → QueueCall → List ℕ
 handed_in a (send p w) = words_of a.released
 handed_in a (receive p) = a.word ∷ []
-handed_in a (forcedSend w) = words_of a.released
+handed_in a (forced_send w) = words_of a.released
 
 abbrev pub handed : Made QueueCall → List ℕ
 handed m = when_ok [] (of_asked [] (handed_in m.answer) m.asked) m.answer.code
@@ -104,7 +104,7 @@ module _ (capacity : ℕ) where
   abbrev pub full_in : List Sent → QueueCall → ℕ
   full_in b (send p w) = 0
   full_in b (receive p) = 0
-  full_in b (forcedSend w) = cond (leb capacity (length b)) 1 0
+  full_in b (forced_send w) = cond (leb capacity (length b)) 1 0
 
   abbrev pub finds_full : List Sent → Made QueueCall → ℕ
   finds_full b m = when_accepted 0 (of_asked 0 (full_in b) m.asked) m.answer.code

@@ -3,7 +3,7 @@ use Rattle.std.specs.Prelude.{Bool, ◌&&◌, List, [], map, ℕ, zero, eqb, ℤ
 pub use Rattle.access.specs.declared.vector.Vector.{Vector}
 pub use Rattle.model.specs.declared.sem.Semaphore.{Semaphore as Sem}
 pub use Rattle.model.specs.declared.Side.{Side}
-pub use Rattle.model.specs.declared.Side.TheVariants.{OnSem as onSem, Receiving as receiving, Sending as sending}
+pub use Rattle.model.specs.declared.Side.TheVariants.{OnSem as on_sem, Receiving as receiving, Sending as sending}
 use Rattle.access.specs.Domains.{running_of}
 use Rattle.access.specs.Vectors.{uniform}
 use Rattle.model.specs.Lists.{at}
@@ -140,7 +140,7 @@ abbrev pub place : Side → ℕ → Place
 place d n = record { side = d; number = n }
 
 abbrev pub side_number : Side → ℕ
-side_number onSem = 0
+side_number on_sem = 0
 side_number receiving = 1
 side_number sending = 2
 

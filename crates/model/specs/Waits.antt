@@ -1,7 +1,7 @@
 -- The waiting tasks (document 01, "Calls on an open gateway"; priority order: request T-10). Definitions only.
 use Rattle.std.specs.Prelude.{Bool, true, false, not, ◌&&◌, ◌||◌, List, [], ◌∷◌, ◌++◌, ℕ, eqb}
 use Rattle.model.specs.Lists.{at, keep, arrange}
-use Rattle.model.specs.State.{TaskEntry, Place, Waiter, State, Side, onSem, receiving, sending, same_place, place, no_task, sem_at, queue_at}
+use Rattle.model.specs.State.{TaskEntry, Place, Waiter, State, Side, on_sem, receiving, sending, same_place, place, no_task, sem_at, queue_at}
 use Rattle.model.specs.Answers.{Released, Effect, effect, say}
 use Rattle.itron.specs.Codes.{Err, e_tmout, ok, waiting, error}
 pub use Rattle.model.specs.declared.Patience.{Patience}
@@ -34,7 +34,7 @@ standing false ts l = l
 
 -- which of the two holds at a place; those who wait to receive stand as they came
 abbrev pub order_of : State → Side → ℕ → Bool
-order_of s onSem i = by_priority (sem_at s i).attribute
+order_of s on_sem i = by_priority (sem_at s i).attribute
 order_of s receiving q = false
 order_of s sending q = by_priority (queue_at s q).attribute
 

@@ -19,12 +19,12 @@ use Rattle.model.specs.declared.sem.SemaphoreCall.{SemaphoreCall}
 use Rattle.model.specs.declared.sem.SemaphoreCall.TheVariants.{Signal as signal, Acquire as acquire}
 use Rattle.model.specs.declared.sem.SemaphoreRequest.{SemaphoreRequest}
 use Rattle.model.specs.declared.sem.SemaphoreRequest.TheVariants as Request
-use Rattle.model.specs.contracts.sem.SemaphoreCall.{the_type as call-type}
-use Rattle.model.specs.contracts.sem.SemaphoreRequest.{the_type as request-type}
+use Rattle.model.specs.contracts.sem.SemaphoreCall.{the_type as call_type}
+use Rattle.model.specs.contracts.sem.SemaphoreRequest.{the_type as request_type}
 use Rattle.model.specs.declared.Info.{Info}
 use Rattle.model.specs.declared.Reply.{Reply}
 use Rattle.model.specs.declared.Patience.{Patience}
-use Rattle.model.specs.declared.Side.TheVariants.{OnSem as onSem}
+use Rattle.model.specs.declared.Side.TheVariants.{OnSem as on_sem}
 use Rattle.model.specs.declared.check.Check.{Check}
 use Rattle.model.specs.declared.check.Check.TheVariants.{Admitted}
 use Rattle.tasks.specs.declared.state.Tasks.{Tasks}
@@ -61,7 +61,7 @@ module _ {t : Tasks} {s : Semaphores} (ht : TasksHeld.Held t) (h : Held s) (k : 
   abbrev full : Semaphore → Bool
   full x = leb x.max x.count
 
-  pub signal_wakes_lem : {i w : ℕ} → Waits t (by_priority (sem_in xs (suc k)).attribute) (place onSem (suc k)) i w → (e : Ended) → e ≡ woken_of es ws i 0 0 → ended_with e s ≡ effect_as es (on_signal es ws xs (suc k))
+  pub signal_wakes_lem : {i w : ℕ} → Waits t (by_priority (sem_in xs (suc k)).attribute) (place on_sem (suc k)) i w → (e : Ended) → e ≡ woken_of es ws i 0 0 → ended_with e s ≡ effect_as es (on_signal es ws xs (suc k))
   signal_wakes_lem y e q =
       wakes_by sems_as effect ht h.form y 0 0 e q
       ∙ ap (λ (l : List Waiter). effect_as es (signal_by ws xs (suc k) l (full (sem_in xs (suc k))))) (sym y.list)
@@ -97,11 +97,11 @@ module _ {t : Tasks} {s : Semaphores} (ht : TasksHeld.Held t) (h : Held s) (k : 
       acquire_waits_lem l e q = waits_by sems_as effect ht h.form p (waiter_of (suc task) (OnSem k)) e q ∙ acquires 0 (omega arith)
 
 -- ---- by the call and by the request
-pub is_signal : (c : SemaphoreCall) → OneOf (0 ∷ []) (tag_of call-type c) → c ≡ signal
+pub is_signal : (c : SemaphoreCall) → OneOf (0 ∷ []) (tag_of call_type c) → c ≡ signal
 is_signal signal t = refl
 is_signal (acquire p) t = absurd (omega arith)
 
-pub is_refer_lem : (r : SemaphoreRequest) → OneOf (1 ∷ []) (tag_of request-type r) → r ≡ Request.Refer
+pub is_refer_lem : (r : SemaphoreRequest) → OneOf (1 ∷ []) (tag_of request_type r) → r ≡ Request.Refer
 is_refer_lem (Request.Own c) t = absurd (omega arith)
 is_refer_lem Request.Refer t = refl
 is_refer_lem (Request.SetVector v) t = absurd (omega arith)

@@ -8,7 +8,7 @@ use Rattle.arrays.specs.Pad.{pad}
 use Rattle.arrays.proofs.Pads.{pad_get, pad_take}
 use Rattle.itron.specs.Limits.{max_tasks}
 use Rattle.model.specs.Lists.{at, All}
-use Rattle.model.specs.State.{TaskEntry, Waiter, no_task as noEntry}
+use Rattle.model.specs.State.{TaskEntry, Waiter, no_task as no_entry}
 use Rattle.model.specs.Conditions.{WaitsFit, Known}
 use Rattle.model.proofs.Fits.{few}
 use Rattle.tasks.specs.declared.task.Task.{Task}
@@ -20,10 +20,10 @@ use Rattle.tasks.proofs.Waits.{number_back}
 use Rattle.tasks.proofs.Entries.{entries_length, entries_seen, entries_get, entries_priority, waiters_back}
 
 -- the entry of a task in the form
-pub entry_at : (es : List TaskEntry) (ws : List Waiter) (i : ℕ) → i < length es → get_or (pad max_tasks no_task (tasks_from 0 es ws)) i no_task ≡ task_as (get_or es i noEntry) (wait_for (suc i) ws)
+pub entry_at : (es : List TaskEntry) (ws : List Waiter) (i : ℕ) → i < length es → get_or (pad max_tasks no_task (tasks_from 0 es ws)) i no_task ≡ task_as (get_or es i no_entry) (wait_for (suc i) ws)
 entry_at es ws i h =
     let e : suc (0 + i) ≡ suc i = omega arith in
-    pad_get no_task max_tasks (tasks_from 0 es ws) i ∙ entries_get 0 es ws i h ∙ ap (λ (t : ℕ). task_as (get_or es i noEntry) (wait_for t ws)) e
+    pad_get no_task max_tasks (tasks_from 0 es ws) i ∙ entries_get 0 es ws i h ∙ ap (λ (t : ℕ). task_as (get_or es i no_entry) (wait_for t ws)) e
 
 pub back_entries : (es : List TaskEntry) (ws : List Waiter) → WaitsFit es ws → entries_of (tasks_as es ws) ≡ es
 unfolding entries_of tasks_as
@@ -67,12 +67,12 @@ module _ {t : Tasks} (h : Held t) where
   unfolding tasks_as
   waiting_seen = ap (λ (x : Tasks). x.waiting) h.form
 
-  pub entry_seen : (i : ℕ) → i < length (entries_of t) → get_or t.entries i no_task ≡ task_as (get_or (entries_of t) i noEntry) (wait_for (suc i) (waits_of t))
+  pub entry_seen : (i : ℕ) → i < length (entries_of t) → get_or t.entries i no_task ≡ task_as (get_or (entries_of t) i no_entry) (wait_for (suc i) (waits_of t))
   unfolding tasks_as
   entry_seen i l = ap (λ (x : Tasks). get_or x.entries i no_task) h.form ∙ entry_at (entries_of t) (waits_of t) i l
 
   -- the priority of any task, and of none
-  pub priority_seen : (n : ℕ) → (at no_task t.entries n).priority ≡ (at noEntry (entries_of t) n).priority
+  pub priority_seen : (n : ℕ) → (at no_task t.entries n).priority ≡ (at no_entry (entries_of t) n).priority
   unfolding tasks_as
   priority_seen zero = refl
   priority_seen (suc i) =

@@ -12,7 +12,7 @@ use borrow.Author.Tests.{le-leb, lt-leb, ne_eqb}
 use Rattle.access.specs.Domains.{ordinal_of}
 use Rattle.model.specs.Lists.{at}
 use Rattle.model.specs.Waits.{absent}
-use Rattle.model.specs.State.{TaskEntry, Waiter, no, no_task as noEntry}
+use Rattle.model.specs.State.{TaskEntry, Waiter, no, no_task as no_entry}
 use Rattle.model.proofs.Places.{nth}
 use Rattle.model.proofs.Ordinals.{outside, within}
 use Rattle.tasks.specs.declared.task.Task.{Task}
@@ -36,7 +36,7 @@ module _ {t : Tasks} (h : Held t) (z : ℤ) where
     is_task_lem : is_task (entries_of t) (no z) ≡ true
     is_task_lem = ap (λ (m : ℕ). not (eqb (no z) 0) && leb (no z) m) (sym (count_seen h)) ∙ (within z t.count k e n).test
 
-    at_row : get_or t.entries (k - 1) no_task ≡ task_as (get_or (entries_of t) (k - 1) noEntry) (wait_for (suc (k - 1)) (waits_of t))
+    at_row : get_or t.entries (k - 1) no_task ≡ task_as (get_or (entries_of t) (k - 1) no_entry) (wait_for (suc (k - 1)) (waits_of t))
     at_row = entry_seen h (k - 1) (let c = count_seen h in let l = (within z t.count k e n).low in omega arith)
 
     ready_by : absent (no z) (waits_of t) ≡ is_ready (get_or t.entries (k - 1) no_task).wait
@@ -60,10 +60,10 @@ module _ {t : Tasks} (h : Held t) (n : ℕ) where
       let c = count_seen h in
       let i : n ≡ suc (n - 1) = omega arith in
       entry_seen h (n - 1) (omega arith)
-      ∙ sym (rw (ne_eqb n 0 z, le-leb n (length (entries_of t)) (omega arith)) (λ j. task_as (at noEntry (entries_of t) (i j)) (wait_for (i j) (waits_of t))))
+      ∙ sym (rw (ne_eqb n 0 z, le-leb n (length (entries_of t)) (omega arith)) (λ j. task_as (at no_entry (entries_of t) (i j)) (wait_for (i j) (waits_of t))))
 
 -- ---- what is shown of a task, whatever its number: its entry's domain and priority
 pub shown_entry : (l m : List TaskEntry) (x : TaskEntry) (ws : List Waiter) → ((task_of (l ++ (x ∷ m)) ws (suc (length l))).domain ≡ x.domain) × ((task_of (l ++ (x ∷ m)) ws (suc (length l))).priority ≡ x.priority)
 shown_entry l m x ws =
     let c = length-append l (x ∷ m) in
-    rw (ne_eqb (suc (length l)) 0 (λ e. omega (arith, e)), le-leb (suc (length l)) (length (l ++ (x ∷ m))) (omega (arith, c)), nth noEntry x l m) (refl, refl)
+    rw (ne_eqb (suc (length l)) 0 (λ e. omega (arith, e)), le-leb (suc (length l)) (length (l ++ (x ∷ m))) (omega (arith, c)), nth no_entry x l m) (refl, refl)

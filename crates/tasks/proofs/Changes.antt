@@ -13,7 +13,7 @@ use Rattle.arrays.specs.Pad.{pad}
 use Rattle.arrays.proofs.Pads.{pad_take, pad_set, pad_snoc}
 use Rattle.itron.specs.Limits.{max_domains, max_tasks}
 use Rattle.model.specs.Lists.{index}
-use Rattle.model.specs.State.{TaskEntry, Waiter, no_task as noEntry}
+use Rattle.model.specs.State.{TaskEntry, Waiter, no_task as no_entry}
 use Rattle.model.specs.Waits.{absent, leave, join}
 use Rattle.model.specs.Conditions.{WaitsFit, TaskOwner}
 use Rattle.model.proofs.Fits.{few, waits_join}
@@ -59,7 +59,7 @@ module _ (es : List TaskEntry) (ws l : List Waiter) where
       let ts = tasks_from 0 es ws in
       let z : 0 + i ≡ i = omega arith in
       ap (λ (x : Task). set (pad max_tasks no_task ts) i (with_wait x w)) (entry_at es ws i h)
-      ∙ pad_set no_task max_tasks ts i (task_as (get_or es i noEntry) w) (let q = entries_length 0 es ws in omega arith)
+      ∙ pad_set no_task max_tasks ts i (task_as (get_or es i no_entry) w) (let q = entries_length 0 es ws in omega arith)
       ∙ ap (pad max_tasks no_task) (entries_set 0 es ws l i w h (ap (λ (k : ℕ). wait_for (suc k) l) z ∙ e) (λ u k. f u (λ q. k (q ∙ ap suc (sym z)))))
 
 release_form : (es : List TaskEntry) (ws : List Waiter) → WaitsFit es ws → (i : ℕ) → i < length es → released (tasks_as es ws) i ≡ tasks_as es (leave (suc i) ws)

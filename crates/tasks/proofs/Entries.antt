@@ -6,7 +6,7 @@ use mathlib.Core.Logic.{◌≢◌}
 use mathlib.Core.List.{List, [], ◌∷◌, ◌++◌, map}
 use lib.ListN.{length, get_or, set}
 use Rattle.model.specs.Lists.{All}
-use Rattle.model.specs.State.{TaskEntry, Waiter, no_task as noEntry}
+use Rattle.model.specs.State.{TaskEntry, Waiter, no_task as no_entry}
 use Rattle.model.specs.Conditions.{Distinct, Known, Plain}
 use Rattle.tasks.specs.declared.task.Wait.{Wait}
 use Rattle.tasks.specs.declared.task.Wait.TheVariants.{Ready}
@@ -23,21 +23,21 @@ pub entries_seen : (n : ℕ) (es : List TaskEntry) (l : List Waiter) → map ent
 entries_seen n [] l = refl
 entries_seen n (d ∷ es) l = ap (λ (z : List TaskEntry). d ∷ z) (entries_seen (suc n) es l)
 
-pub entries_get : (n : ℕ) (es : List TaskEntry) (l : List Waiter) (i : ℕ) → i < length es → get_or (tasks_from n es l) i no_task ≡ task_as (get_or es i noEntry) (wait_for (suc (n + i)) l)
+pub entries_get : (n : ℕ) (es : List TaskEntry) (l : List Waiter) (i : ℕ) → i < length es → get_or (tasks_from n es l) i no_task ≡ task_as (get_or es i no_entry) (wait_for (suc (n + i)) l)
 entries_get n [] l i h = absurd (omega arith)
 entries_get n (d ∷ es) l zero h = let e : n ≡ n + 0 = omega arith in λ j. task_as d (wait_for (suc (e j)) l)
 entries_get n (d ∷ es) l (suc i) h =
     let e : suc n + i ≡ n + suc i = omega arith in
-    entries_get (suc n) es l i (omega arith) ∙ (λ j. task_as (get_or es i noEntry) (wait_for (suc (e j)) l))
+    entries_get (suc n) es l i (omega arith) ∙ (λ j. task_as (get_or es i no_entry) (wait_for (suc (e j)) l))
 
-pub entries_priority : (n : ℕ) (es : List TaskEntry) (l : List Waiter) (i : ℕ) → (get_or (tasks_from n es l) i no_task).priority ≡ (get_or es i noEntry).priority
+pub entries_priority : (n : ℕ) (es : List TaskEntry) (l : List Waiter) (i : ℕ) → (get_or (tasks_from n es l) i no_task).priority ≡ (get_or es i no_entry).priority
 entries_priority n [] l i = refl
 entries_priority n (d ∷ es) l zero = refl
 entries_priority n (d ∷ es) l (suc i) = entries_priority (suc n) es l i
 
 -- one task does something else
 pub entries_set : (n : ℕ) (es : List TaskEntry) (l l' : List Waiter) (i : ℕ) (w : Wait) → i < length es → wait_for (suc (n + i)) l' ≡ w → ((u : ℕ) → u ≢ suc (n + i) → wait_for u l' ≡ wait_for u l)
-    → set (tasks_from n es l) i (task_as (get_or es i noEntry) w) ≡ tasks_from n es l'
+    → set (tasks_from n es l) i (task_as (get_or es i no_entry) w) ≡ tasks_from n es l'
 entries_set n [] l l' i w h e f = absurd (omega arith)
 entries_set n (d ∷ es) l l' zero w h e f =
     let z : n + 0 ≡ n = omega arith in

@@ -9,7 +9,7 @@ use lib.ListN.{length, get_or, take}
 use types.Run.{OneOf}
 use denote.Enum.Declared.{tag_of}
 use Rattle.model.specs.Lists.{index, at, All}
-use Rattle.model.specs.State.{Waiter, Place, no_task as noEntry}
+use Rattle.model.specs.State.{Waiter, Place, no_task as no_entry}
 use Rattle.model.specs.Waits.{stands_at, is_other, waiters_in, standing, first_task, leave}
 use Rattle.model.specs.Conditions.{Known, WaitsFit}
 use Rattle.model.proofs.Lists.{all_keep, keep_comm, distinct_keep}
@@ -23,14 +23,14 @@ use Rattle.tasks.specs.View.{no_task, waiter_of, waiter_at, entries_of, waits_of
 use Rattle.tasks.specs.Form.{tasks_as}
 use Rattle.tasks.specs.Held.{Held}
 use Rattle.tasks.specs.Ends.{first_of, task_in}
-use Rattle.tasks.specs.contracts.wait.First.{the_type as first-type}
+use Rattle.tasks.specs.contracts.wait.First.{the_type as first_type}
 use Rattle.tasks.proofs.Waits.{number_back}
 use Rattle.tasks.proofs.Back.{back_entries, back_waits, held_as, priority_seen}
 use Rattle.tasks.proofs.Leads.{map_arrange, first_by}
 use Rattle.tasks.proofs.Places.{word_any, task_any}
 
 -- ---- from what was found
-pub no_first : (l : List Waiter) (r : First) → r ≡ first_of l → OneOf (0 ∷ []) (tag_of first-type r) → l ≡ []
+pub no_first : (l : List Waiter) (r : First) → r ≡ first_of l → OneOf (0 ∷ []) (tag_of first_type r) → l ≡ []
 no_first [] r e t = refl
 no_first (x ∷ l) Nobody e t = absurd (let z : ◌≡◌ {A = ℕ} 0 1 = cc in omega arith)
 no_first (x ∷ l) (FirstIs k w) e t = absurd (omega arith)
@@ -150,5 +150,5 @@ pub first_ranked : {t : Tasks} → Held t → (p : Place) → first_task (standi
 first_ranked {t} h p =
     let l = waiters_in (waits_of t) p in
     sym (first_task_lem (queue_at t true p))
-    ∙ ap (λ (m : List ℕ). get_or m 0 0) (map_arrange task_in (λ (n : ℕ). (at noEntry (entries_of t) n).priority) l)
+    ∙ ap (λ (m : List ℕ). get_or m 0 0) (map_arrange task_in (λ (n : ℕ). (at no_entry (entries_of t) n).priority) l)
     ∙ sym (λ j. first_by (λ (n : ℕ). priority_seen h n j) (map task_in l))

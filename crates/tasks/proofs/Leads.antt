@@ -123,7 +123,7 @@ module _ (rank : ℕ → ℕ) (all : List ℕ) where
   module _ (m l : List ℕ) (a r : Lead) (v : Scan rank all m a) where
     pub scan_next : (x : ℕ) → m ≡ suc x ∷ l → r ≡ lead_of a (x + 1) (rank (suc x)) → Scan rank all l r
     scan_next x h f =
-        let e : r ≡ lead_of (leads rank a.number) (suc x) (rank (suc x)) = f ∙ (λ i. lead_of (v.own-rank i) (add-one x i) (rank (suc x))) in
+        let e : r ≡ lead_of (leads rank a.number) (suc x) (rank (suc x)) = f ∙ (λ i. lead_of (v.own_rank i) (add-one x i) (rank (suc x))) in
         record {
           own_rank = e ∙ own rank a.number (suc x) ∙ ap (λ (y : Lead). leads rank y.number) (sym e);
           same_first = v.same_first ∙ ap (λ (k : List ℕ). first_by rank (led rank a.number k)) h ∙ step rank a.number x l ∙ ap (λ (y : Lead). first_by rank (led rank y.number l)) (sym e);

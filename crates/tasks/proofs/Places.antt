@@ -10,7 +10,7 @@ use types.Run.{OneOf}
 use denote.Enum.Declared.{tag_of}
 use Rattle.model.specs.State.{place, side_number, same_side, same_place}
 use Rattle.model.specs.declared.Side.{Side}
-use Rattle.model.specs.declared.Side.TheVariants.{OnSem as onSem}
+use Rattle.model.specs.declared.Side.TheVariants.{OnSem as on_sem}
 use Rattle.model.proofs.Lists.{eqb_same, eqb_no}
 use Rattle.tasks.specs.declared.task.Wait.{Wait}
 use Rattle.tasks.specs.declared.task.Wait.TheVariants.{Ready, OnSem, Receiving, Sending}
@@ -35,7 +35,7 @@ abbrev pub placed : Side → ℕ → Wait → Bool
 placed d o w = same_place (place d (suc o)) (waiter_of 0 w).place
 
 pub nowhere : (d : Side) (w : Wait) (o : ℕ) → OneOf (0 ∷ []) (tag_of the_type w) → false ≡ placed d o w
-nowhere d Ready o t = sym (rw (eqb_no (suc o) 0 (λ e. omega arith)) (and-false (same_side d onSem)))
+nowhere d Ready o t = sym (rw (eqb_no (suc o) 0 (λ e. omega arith)) (and-false (same_side d on_sem)))
 nowhere d (OnSem k) o t = absurd (omega arith)
 nowhere d (Receiving k) o t = absurd (omega arith)
 nowhere d (Sending k w) o t = absurd (omega arith)

@@ -10,7 +10,7 @@ use Rattle.model.specs.State.{Waiter, waiter}
 use Rattle.model.specs.Waits.{is_other, absent}
 use Rattle.model.specs.Conditions.{Distinct, Plain, WordFits}
 use Rattle.model.specs.declared.Side.{Side}
-use Rattle.model.specs.declared.Side.TheVariants.{OnSem as onSem, Receiving as receiving, Sending as sending}
+use Rattle.model.specs.declared.Side.TheVariants.{OnSem as on_sem, Receiving as receiving, Sending as sending}
 use Rattle.model.proofs.Lists.{eq_of, eqb_same, eqb_no, eqb_sym, and_left, and_right}
 use Rattle.tasks.specs.declared.task.Wait.TheVariants.{Ready}
 use Rattle.tasks.specs.View.{waiter_of}
@@ -31,7 +31,7 @@ busy_in : (e : Waiter) → is_ready (wait_in e) ≡ false
 busy_in e = go e.place.side
   where
     go : (d : Side) → is_ready (wait_as d e.place.number e.word) ≡ false
-    go onSem = refl
+    go on_sem = refl
     go receiving = refl
     go sending = refl
 
@@ -74,7 +74,7 @@ wait_stays u t (x ∷ l) n = go (eqb t x.task) refl (wait_stays u t l n)
 
 -- ---- a waiting task, read back from what it does
 waiter_as : (t : ℕ) (d : Side) (k w : ℕ) → k ≢ 0 → WordFits d w → waiter_of t (wait_as d k w) ≡ waiter t d k w
-waiter_as t onSem k w h p = let b = number_back k h in λ i. waiter t onSem (b i) (sym p i)
+waiter_as t on_sem k w h p = let b = number_back k h in λ i. waiter t on_sem (b i) (sym p i)
 waiter_as t receiving k w h p = let b = number_back k h in λ i. waiter t receiving (b i) (sym p i)
 waiter_as t sending k w h p = let b = number_back k h in λ i. waiter t sending (b i) w
 

@@ -2,7 +2,7 @@
 use Rattle.std.specs.Prelude.{ℕ, suc, Bool, cond, not, ◌&&◌, List, [], ◌∷◌, eqb, leb, length}
 use Rattle.itron.specs.Codes.{ok_number}
 use Rattle.model.specs.Lists.{index, at}
-use Rattle.model.specs.State.{TaskEntry, Waiter, no_task as noEntry}
+use Rattle.model.specs.State.{TaskEntry, Waiter, no_task as no_entry}
 use Rattle.model.specs.Answers.{Effect, reply_of}
 use Rattle.model.specs.Waits.{absent, leave}
 use Rattle.model.specs.declared.Outcome.TheVariants.{Code}
@@ -30,11 +30,11 @@ is_task es t = not (eqb t 0) && leb t (length es)
 
 -- who calls: a registered ready task with its domain, or nobody who may
 abbrev pub caller_of : List TaskEntry → List Waiter → ℕ → Caller
-caller_of es ws t = cond (is_task es t && absent t ws) (Caller.Ready (index t) (at noEntry es t).domain) Caller.Nobody
+caller_of es ws t = cond (is_task es t && absent t ws) (Caller.Ready (index t) (at no_entry es t).domain) Caller.Nobody
 
 -- the task with a number; an unused cell where there is none
 abbrev pub task_of : List TaskEntry → List Waiter → ℕ → Task
-task_of es ws t = cond (is_task es t) (task_as (at noEntry es t) (wait_for t ws)) no_task
+task_of es ws t = cond (is_task es t) (task_as (at no_entry es t) (wait_for t ws)) no_task
 
 -- a call's end that changes the tasks only
 abbrev pub ended_of : {R : Type 0} → List TaskEntry → Effect R → Ended

@@ -5,7 +5,7 @@ use Rattle.itron.specs.Limits.{max_tasks}
 use Rattle.model.specs.Lists.{index}
 use Rattle.model.specs.State.{TaskEntry, Waiter}
 use Rattle.model.specs.declared.Side.{Side}
-use Rattle.model.specs.declared.Side.TheVariants.{OnSem as onSem, Receiving as receiving, Sending as sending}
+use Rattle.model.specs.declared.Side.TheVariants.{OnSem as on_sem, Receiving as receiving, Sending as sending}
 use Rattle.tasks.specs.declared.task.Wait.{Wait}
 use Rattle.tasks.specs.declared.task.Wait.TheVariants.{Ready, OnSem, Receiving, Sending}
 use Rattle.tasks.specs.declared.task.Task.{Task}
@@ -13,7 +13,7 @@ use Rattle.tasks.specs.declared.state.Tasks.{Tasks}
 use Rattle.tasks.specs.View.{no_task}
 
 abbrev pub wait_as : Side → ℕ → ℕ → Wait
-wait_as onSem n w = OnSem (index n)
+wait_as on_sem n w = OnSem (index n)
 wait_as receiving n w = Receiving (index n)
 wait_as sending n w = Sending (index n) w
 

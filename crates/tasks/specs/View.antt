@@ -1,7 +1,7 @@
 -- What is seen of the tasks: their entries, and who waits. Definitions only.
 use Rattle.std.specs.Prelude.{ℕ, suc, List, map, pos, get_or, take}
 use Rattle.model.specs.State.{TaskEntry, Waiter, waiter}
-use Rattle.model.specs.declared.Side.TheVariants.{OnSem as onSem, Receiving as receiving, Sending as sending}
+use Rattle.model.specs.declared.Side.TheVariants.{OnSem as on_sem, Receiving as receiving, Sending as sending}
 use Rattle.tasks.specs.declared.task.Wait.{Wait}
 use Rattle.tasks.specs.declared.task.Wait.TheVariants.{Ready, OnSem, Receiving, Sending}
 use Rattle.tasks.specs.declared.task.Task.{Task}
@@ -17,8 +17,8 @@ with_wait t w = record { domain = t.domain; priority = t.priority; wait = w }
 
 -- a waiting task: its number, where it waits, and its word
 abbrev pub waiter_of : ℕ → Wait → Waiter
-waiter_of t Ready = waiter t onSem 0 0
-waiter_of t (OnSem k) = waiter t onSem (suc k) 0
+waiter_of t Ready = waiter t on_sem 0 0
+waiter_of t (OnSem k) = waiter t on_sem (suc k) 0
 waiter_of t (Receiving k) = waiter t receiving (suc k) 0
 waiter_of t (Sending k w) = waiter t sending (suc k) w
 

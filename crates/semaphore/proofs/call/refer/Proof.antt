@@ -7,7 +7,7 @@ use Rattle.model.specs.State.{place}
 use Rattle.model.specs.Waits.{waiters_in, standing, by_priority, first_task}
 use Rattle.model.specs.Semaphores.{told}
 use Rattle.model.specs.declared.sem.Semaphore.{Semaphore}
-use Rattle.model.specs.declared.Side.TheVariants.{OnSem as onSem}
+use Rattle.model.specs.declared.Side.TheVariants.{OnSem as on_sem}
 use Rattle.tasks.specs.View.{entries_of, waits_of}
 use Rattle.tasks.proofs.Rooms.{tells_by}
 use Rattle.semaphore.specs.View.{sems_of}
@@ -40,7 +40,7 @@ returns c =
     let p = c.plain.ensures in
     let x = get_seen b.requires.1 a.object b.requires.2 in
     let o = n.before.by-priority.ensures ∙ ap (λ (y : Semaphore). by_priority y.attribute) x in
-    let f = n.first-number.ensures ∙ ap (λ (o : Bool). first_task (standing o (entries_of a.tasks) (waiters_in (waits_of a.tasks) (place onSem (suc a.object))))) o in
+    let f = n.first-number.ensures ∙ ap (λ (o : Bool). first_task (standing o (entries_of a.tasks) (waiters_in (waits_of a.tasks) (place on_sem (suc a.object))))) o in
     (λ i. effect (p i) (record { first = f i; second = 0; amount = (x i).count; vector = (x i).vector }) a.tasks a.t2)
     ∙ tells_by sems_as effect b.requires.0 b.requires.1.form (told (entries_of a.tasks) (waits_of a.tasks) (sems_of a.t2) (suc a.object))
 

@@ -9,7 +9,7 @@ use Rattle.model.specs.State.{place, no_sem}
 use Rattle.model.specs.Waits.{waiters_in, standing, by_priority}
 use Rattle.model.specs.Semaphores.{sem_in, waiters_of}
 use Rattle.model.specs.declared.sem.Semaphore.{Semaphore}
-use Rattle.model.specs.declared.Side.TheVariants.{OnSem as onSem}
+use Rattle.model.specs.declared.Side.TheVariants.{OnSem as on_sem}
 use Rattle.tasks.specs.View.{entries_of, waits_of}
 use Rattle.tasks.specs.Ends.{first_of}
 use Rattle.tasks.proofs.Firsts.{Waits, waits, no_first}
@@ -46,16 +46,16 @@ found c =
     let b = c.before.before.before in
     let a = b.args in
     c.first.ensures
-    ∙ ap (λ (o : Bool). first_of (standing o (entries_of a.tasks) (waiters_in (waits_of a.tasks) (place onSem (suc a.object)))))
+    ∙ ap (λ (o : Bool). first_of (standing o (entries_of a.tasks) (waiters_in (waits_of a.tasks) (place on_sem (suc a.object)))))
     (c.before.by-priority.ensures ∙ ap (λ (x : Semaphore). by_priority x.attribute) (record_at b))
 
 -- who waits first
-first_at : (c : tie.After-waiter) → let a = c.before.before.before.before.before.args in Waits a.tasks (by_priority (sem_in (sems_of a.t2) (suc a.object)).attribute) (place onSem (suc a.object)) c.waiter.given.0.0 c.waiter.given.0.1.0
+first_at : (c : tie.After-waiter) → let a = c.before.before.before.before.before.args in Waits a.tasks (by_priority (sem_in (sems_of a.t2) (suc a.object)).attribute) (place on_sem (suc a.object)) c.waiter.given.0.0 c.waiter.given.0.1.0
 first_at c =
     let f = c.before.before in
     let b = f.before.before.before in
     let a = b.args in
-    waits b.requires.0 (by_priority (sem_in (sems_of a.t2) (suc a.object)).attribute) (place onSem (suc a.object)) _ _ (sym (found f) ∙ c.waiter.given.1)
+    waits b.requires.0 (by_priority (sem_in (sems_of a.t2) (suc a.object)).attribute) (place on_sem (suc a.object)) _ _ (sym (found f) ∙ c.waiter.given.1)
 
 wake-requires : tie.Need-wake-requires
 wake-requires c κs = (c.before.before.before.before.before.before.requires.0, (first_at c.before).low)

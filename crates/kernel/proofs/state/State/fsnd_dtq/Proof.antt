@@ -4,7 +4,7 @@ use mathlib.Core.Path.{refl}
 use mir.Facts.{to_z-of_z}
 use Rattle.model.specs.Acts.{own}
 use Rattle.model.specs.Calls.{on_queue}
-use Rattle.model.specs.declared.dtq.QueueCall.TheVariants.{ForcedSend as forcedSend}
+use Rattle.model.specs.declared.dtq.QueueCall.TheVariants.{ForcedSend as forced_send}
 use Rattle.kernel.proofs.Calls.{queues, on_part}
 use Rattle.kernel.proofs.state.State.fsnd_dtq.Statement.{statement}
 use Rattle.kernel.proofs.state.State.fsnd_dtq.Tie as tie
@@ -19,7 +19,7 @@ returns : tie.Need-returns
 returns c =
     let b = c.before.before in
     let a = b.args in
-    on_part b.requires (queues b.requires) a.caller a.id (own (forcedSend a.word)) (on_queue a.id (own (forcedSend a.word))) refl (rw (to_z-of_z b.ranges.caller, to_z-of_z b.ranges.id) at c.before.queue-effect.ensures) c.with-queues.ensures
+    on_part b.requires (queues b.requires) a.caller a.id (own (forced_send a.word)) (on_queue a.id (own (forced_send a.word))) refl (rw (to_z-of_z b.ranges.caller, to_z-of_z b.ranges.id) at c.before.queue-effect.ensures) c.with-queues.ensures
 
 pub fsnd_dtq_spec : {M : Type 1} → statement M
 fsnd_dtq_spec = tie.close (tie.spec queue-effect-requires with-queues-requires returns)

@@ -24,14 +24,14 @@ part-result-end : tie.Need-slice-bounds-result-end
 part-result-end c = search rules
 
 -- the images as lent
-abbrev flashOf : tie.Start → Image
-flashOf b = image b.args.bases.flash b.args.flash.now
+abbrev flash_of : tie.Start → Image
+flash_of b = image b.args.bases.flash b.args.flash.now
 
-abbrev ramOf : tie.Start → Image
-ramOf b = image b.args.bases.ram b.args.ram.now
+abbrev ram_of : tie.Start → Image
+ram_of b = image b.args.bases.ram b.args.ram.now
 
 -- the code of the same inputs, and the same as its words give it back
-coded : (c : tie.After-get-mem-code) → let b = c.before.before.before in let a = b.args in c.get-mem-code.result ≡ result_of (hand_out (view_of a.self) a.domain a.base a.size (flashOf b) (ramOf b))
+coded : (c : tie.After-get-mem-code) → let b = c.before.before.before in let a = b.args in c.get-mem-code.result ≡ result_of (hand_out (view_of a.self) a.domain a.base a.size (flash_of b) (ram_of b))
 coded c = rw (to_z-of_z c.before.before.before.ranges.domain) at c.get-mem-code.ensures
 
 sign : (c : tie.After-get-mem-code) → to_z w32 (of_z w32 c.get-mem-code.result) ≡ c.get-mem-code.result
@@ -42,7 +42,7 @@ returns c =
     let p = c.before.before in
     let b = p.before.before.before in
     let a = b.args in
-    part_refused a.self a.domain a.base a.size (flashOf b) (ramOf b) p.get-mem-code.result (coded p) (λ e. c.before.if1.true (ap (of_z w32) e))
+    part_refused a.self a.domain a.base a.size (flash_of b) (ram_of b) p.get-mem-code.result (coded p) (λ e. c.before.if1.true (ap (of_z w32) e))
 
 part-requires : tie.Need-part-requires
 part-requires c κs = search rules
@@ -52,7 +52,7 @@ returns-2 c =
     let p = c.before.before in
     let b = p.before.before.before in
     let a = b.args in
-    c.part.ensures ∙ part_ok a.self a.domain a.base a.size (flashOf b) (ramOf b) p.get-mem-code.result (coded p) (sym (sign p) ∙ ap (to_z w32) c.before.if1.false)
+    c.part.ensures ∙ part_ok a.self a.domain a.base a.size (flash_of b) (ram_of b) p.get-mem-code.result (coded p) (sym (sign p) ∙ ap (to_z w32) c.before.if1.false)
 
 pub get_mem_spec : {M : Type 1} → statement M
 get_mem_spec =

@@ -16,17 +16,17 @@ use Rattle.kernel.proofs.state.State.get_mem_code.Statement.{statement}
 use Rattle.kernel.proofs.state.State.get_mem_code.Tie as tie
 
 -- the images as lent
-abbrev flashOf : tie.Start → Image
-flashOf b = image b.args.bases.flash b.args.flash.now
+abbrev flash_of : tie.Start → Image
+flash_of b = image b.args.bases.flash b.args.flash.now
 
-abbrev ramOf : tie.Start → Image
-ramOf b = image b.args.bases.ram b.args.ram.now
+abbrev ram_of : tie.Start → Image
+ram_of b = image b.args.bases.ram b.args.ram.now
 
 returns : tie.Need-returns
 returns c =
     let b = c.before.before.before.before in
     let a = b.args in
-    out_ctx a.self a.domain a.base a.size (flashOf b) (ramOf b) (not-true a.self.closed c.if1.true)
+    out_ctx a.self a.domain a.base a.size (flash_of b) (ram_of b) (not-true a.self.closed c.if1.true)
 
 are-images-requires : tie.Need-are-images-requires
 are-images-requires c κs = search rules
@@ -39,12 +39,12 @@ returns-2 c =
     let p = c.before.before in
     let b = p.before.before.before.before in
     let a = b.args in
-    out_par a.self a.domain a.base a.size (flashOf b) (ramOf b) (closed p) (sym c.before.are-images.ensures ∙ not-true c.before.are-images.result c.if2.true)
+    out_par a.self a.domain a.base a.size (flash_of b) (ram_of b) (closed p) (sym c.before.are-images.ensures ∙ not-true c.before.are-images.result c.if2.true)
 
 prb-mem-requires : tie.Need-prb-mem-requires
 prb-mem-requires c κs = search rules
 
-lendable : (c : tie.Else2) → let b = c.before.before.before.before.before.before in images_ok (flashOf b) (ramOf b) ≡ true
+lendable : (c : tie.Else2) → let b = c.before.before.before.before.before.before in images_ok (flash_of b) (ram_of b) ≡ true
 lendable c = sym c.before.are-images.ensures ∙ not-false c.before.are-images.result c.if2.false
 
 -- the verdict's code, and the same as its words give it back
@@ -60,7 +60,7 @@ returns-3 c =
     let q = p.before in
     let b = q.before.before.before.before.before.before in
     let a = b.args in
-    sign p ∙ out_refused a.self a.domain a.base a.size (flashOf b) (ramOf b) (closed q.before.before) (lendable q) p.prb-mem.result (judged p) (λ e. c.if3.true (ap (of_z w32) e))
+    sign p ∙ out_refused a.self a.domain a.base a.size (flash_of b) (ram_of b) (closed q.before.before) (lendable q) p.prb-mem.result (judged p) (λ e. c.if3.true (ap (of_z w32) e))
 
 is-held-requires : tie.Need-is-held-requires
 is-held-requires c κs = search rules
@@ -75,7 +75,7 @@ returns-4 c =
     let q = p.before in
     let b = q.before.before.before.before.before.before in
     let a = b.args in
-    out_noexs a.self a.domain a.base a.size (flashOf b) (ramOf b) (closed q.before.before) (lendable q) p.prb-mem.result (judged p) (ok r) (sym c.before.is_held_lem.ensures ∙ not-true c.before.is_held_lem.result c.if4.true)
+    out_noexs a.self a.domain a.base a.size (flash_of b) (ram_of b) (closed q.before.before) (lendable q) p.prb-mem.result (judged p) (ok r) (sym c.before.is_held_lem.ensures ∙ not-true c.before.is_held_lem.result c.if4.true)
 
 returns-5 : tie.Need-returns-5
 returns-5 c =
@@ -84,7 +84,7 @@ returns-5 c =
     let q = p.before in
     let b = q.before.before.before.before.before.before in
     let a = b.args in
-    out_ok a.self a.domain a.base a.size (flashOf b) (ramOf b) (closed q.before.before) (lendable q) p.prb-mem.result (judged p) (ok r) (sym c.before.is_held_lem.ensures ∙ not-false c.before.is_held_lem.result c.if4.false)
+    out_ok a.self a.domain a.base a.size (flash_of b) (ram_of b) (closed q.before.before) (lendable q) p.prb-mem.result (judged p) (ok r) (sym c.before.is_held_lem.ensures ∙ not-false c.before.is_held_lem.result c.if4.false)
 
 pub get_mem_code_spec : {M : Type 1} → statement M
 get_mem_code_spec =
