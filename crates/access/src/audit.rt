@@ -8,7 +8,7 @@ use itron::code::{E_OK, E_PAR};
 use itron::limit::MAX_DOMAINS;
 
 // How many user domains a pattern admits, and the lowest of them; with nobody admitted both are 0.
-#[derive(Drop)]
+#[derive(Clone, Copy)]
 pub struct Admissions {
     pub count: u32,
     pub lowest: u32,
@@ -21,7 +21,7 @@ impl Admissions {
     };
 }
 
-#[derive(Drop)]
+#[derive(Clone, Copy)]
 pub struct AuditReport {
     pub code: i32,
     pub normal1: Admissions,

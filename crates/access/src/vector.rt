@@ -6,7 +6,7 @@ use crate::domain::{NO_DOMAIN, ordinal};
 use itron::limit::MAX_DOMAINS;
 
 // The kinds of operation that a vector's patterns stand for.
-#[derive(Drop)]
+#[derive(Clone, Copy)]
 pub enum Operation {
     Normal1,
     Normal2,
@@ -14,7 +14,7 @@ pub enum Operation {
     Reference,
 }
 
-#[derive(Drop)]
+#[derive(Clone, Copy)]
 pub struct Vector {
     pub normal1: u32,
     pub normal2: u32,
@@ -88,7 +88,7 @@ impl Vector {
 }
 
 // What an entry says of its vector.
-#[derive(Drop)]
+#[derive(Clone, Copy)]
 pub enum Choice {
     Default,
     Given(Vector),

@@ -19,7 +19,7 @@ pub const WAITING: u32 = 1;
 pub const E_RSFN: i32 = -10;
 
 // An answer's words, and the state after it.
-#[derive(Drop)]
+#[derive(Clone, Copy)]
 pub struct Made {
     pub(crate) words: [u32; ANSWER_WORDS],
     pub(crate) state: State,

@@ -40,7 +40,7 @@ pub const CAL_SVC: u32 = 13;
 
 pub const RET_SVC: u32 = 14;
 
-#[derive(Drop)]
+#[derive(Clone, Copy)]
 pub enum Asked {
     // No call: another function.
     Nothing,

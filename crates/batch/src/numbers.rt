@@ -9,7 +9,7 @@ use access::vector::Vector;
 pub const CALL_WORDS: usize = 8;
 
 // A call as its words say it.
-#[derive(Drop)]
+#[derive(Clone, Copy)]
 pub struct Numbers {
     pub(crate) function: u32,
     pub(crate) caller: i32,

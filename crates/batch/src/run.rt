@@ -12,7 +12,7 @@ use crate::perform::{perform, refused};
 use kernel::state::State;
 
 // How many were answered, and the state after them.
-#[derive(Drop)]
+#[derive(Clone, Copy)]
 pub struct Ran {
     pub answered: usize,
     pub state: State,

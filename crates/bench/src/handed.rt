@@ -22,7 +22,7 @@ const RAM: [u8; 17] = [
 ];
 
 // Where the images begin, and how many bytes of each are lent.
-#[derive(Drop)]
+#[derive(Clone, Copy)]
 struct Lent {
     bases: Bases,
     flash: usize,

@@ -5,7 +5,7 @@ pub const LIST_CALLS: usize = 16;
 
 pub const LIST_WORDS: usize = LIST_CALLS * CALL_WORDS;
 
-#[derive(Drop)]
+#[derive(Clone, Copy)]
 pub struct List {
     pub words: [u32; LIST_WORDS],
     pub len: usize,

@@ -11,7 +11,7 @@ use semaphore::entry::SemaphoreEntry;
 // The priority of a task whose line gives none, the most urgent.
 const DEFAULT_PRIORITY: u32 = 1;
 
-#[derive(Drop)]
+#[derive(Clone, Copy)]
 pub enum Entry {
     // Domain and priority.
     Task(i32, u32),

@@ -1,5 +1,5 @@
 // Why a line is not made (docs/replay.md, "Input").
-#[derive(Drop)]
+#[derive(Clone, Copy)]
 pub enum Flaw {
     // Nothing is wrong.
     None,

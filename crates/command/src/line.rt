@@ -9,14 +9,14 @@ const LF: u8 = 10;
 
 const CR: u8 = 13;
 
-#[derive(Drop)]
+#[derive(Clone, Copy)]
 pub struct Line {
     pub bytes: [u8; SIZE],
     pub count: usize,
 }
 
 // The line so far, the place after the last byte taken, and whether an LF ended the line there.
-#[derive(Drop)]
+#[derive(Clone, Copy)]
 pub struct Gathered {
     pub line: Line,
     pub next: usize,

@@ -25,7 +25,7 @@ const FLASH_LENGTH: usize = 3;
 const RAM_LENGTH: usize = 5;
 
 // A domain reads an area out of two images, which have so many bytes.
-#[derive(Drop)]
+#[derive(Clone, Copy)]
 pub struct HandOut {
     pub domain: i32,
     pub base: u32,

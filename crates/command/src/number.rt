@@ -14,7 +14,7 @@ const LARGEST: u64 = 4_294_967_295;
 const LARGEST_SIGNED: u32 = 2_147_483_647;
 
 // A row of digits: its value, where that has 32 bits.
-#[derive(Drop)]
+#[derive(Clone, Copy)]
 pub enum Magnitude {
     NoNumber,
     OutOfRange,
@@ -22,7 +22,7 @@ pub enum Magnitude {
 }
 
 // A word as a number, and its sign apart.
-#[derive(Drop)]
+#[derive(Clone, Copy)]
 pub enum Number {
     NoNumber,
     OutOfRange,
@@ -30,14 +30,14 @@ pub enum Number {
     Minus(u32),
 }
 
-#[derive(Drop)]
+#[derive(Clone, Copy)]
 pub enum Signed {
     NoNumber,
     OutOfRange,
     Is(i32),
 }
 
-#[derive(Drop)]
+#[derive(Clone, Copy)]
 pub enum Unsigned {
     NoNumber,
     OutOfRange,

@@ -8,7 +8,7 @@ use access::vector::{Choice, Vector};
 // The most unsigned numbers of a command: three of an entry and a vector.
 pub const MOST: usize = 7;
 
-#[derive(Drop)]
+#[derive(Clone, Copy)]
 pub struct Numbers {
     // What is wrong with the first word that is no number or does not fit.
     pub flaw: Flaw,

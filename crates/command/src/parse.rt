@@ -8,7 +8,7 @@ use crate::word;
 use access::vector::Vector;
 use model::Request;
 
-#[derive(Drop)]
+#[derive(Clone, Copy)]
 pub enum Command {
     // No word: nothing to do and nothing to print.
     Blank,

@@ -8,7 +8,7 @@ use crate::parse::{Command, parse};
 use crate::text::Text;
 
 // The echo is the first `count` bytes.
-#[derive(Drop)]
+#[derive(Clone, Copy)]
 pub struct Asked {
     pub command: Command,
     pub echo: Text,

@@ -2,7 +2,7 @@
 ghost use Rattle.std.specs.Prelude.{◌≡◌};
 
 // How many signed numbers come first, how many unsigned ones after them, and how many more may follow, all or none.
-#[derive(Drop)]
+#[derive(Clone, Copy)]
 pub struct Shape {
     pub signed: usize,
     pub unsigned: usize,

@@ -12,7 +12,7 @@ pub(crate) const SPACE: u8 = 32;
 const HASH: u8 = 35;
 
 // `gap` says that blanks stand after the text so far.
-#[derive(Drop)]
+#[derive(Clone, Copy)]
 pub struct Text {
     pub bytes: [u8; SIZE],
     pub count: usize,

@@ -24,7 +24,7 @@ use tasks::wait::{Ended, First};
 pub const RECEIVERS_BY_PRIORITY: bool = false;
 
 // What a call gives: the reply, what a refer tells, and the tasks and the queues after it.
-#[derive(Drop)]
+#[derive(Clone, Copy)]
 pub struct Effect {
     pub reply: Reply,
     pub info: Info,

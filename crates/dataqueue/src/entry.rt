@@ -16,7 +16,7 @@ use itron::limit::{MAX_CAPACITY, MAX_WORDS};
 use model::attribute;
 
 // An entry as given.
-#[derive(Drop)]
+#[derive(Clone, Copy)]
 pub struct QueueEntry {
     pub domain: i32,
     pub attribute: u32,

@@ -15,7 +15,7 @@ use itron::limit::{MAX_QUEUES, MAX_WORDS};
 use model::check::Target;
 
 // A data queue: its buffered words stand at the start of its part of `words`, the oldest first.
-#[derive(Drop)]
+#[derive(Clone, Copy)]
 pub struct Queue {
     pub(crate) domain: i32,
     pub(crate) attribute: u32,
@@ -38,7 +38,7 @@ impl Queue {
 }
 
 // The parts stand one behind the other; cells that no queue uses are 0.
-#[derive(Drop)]
+#[derive(Clone, Copy)]
 pub struct Queues {
     pub(crate) count: usize,
     pub(crate) records: [Queue; MAX_QUEUES],
@@ -46,7 +46,7 @@ pub struct Queues {
 }
 
 // What is seen of a queue but for its words.
-#[derive(Drop)]
+#[derive(Clone, Copy)]
 pub struct QueueInfo {
     pub domain: i32,
     pub attribute: u32,

@@ -6,7 +6,7 @@ use crate::image::{cut, ends_by, lies_in};
 use itron::limit::ADDRESS_END;
 
 // The base address of each image.
-#[derive(Drop)]
+#[derive(Clone, Copy)]
 pub struct Bases {
     pub flash: u32,
     pub ram: u32,

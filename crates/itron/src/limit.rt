@@ -38,7 +38,7 @@ pub const MIN_UNIT: u32 = 1;
 pub const MAX_UNIT: u32 = 65_536;
 
 // All of them, for whoever has to know how large a table can be.
-#[derive(Drop)]
+#[derive(Clone, Copy)]
 pub struct Limits {
     pub domains: usize,
     pub tasks: usize,

@@ -14,7 +14,7 @@ use model::{Side, attribute};
 use tasks::task::Task;
 
 // How large the table is: the number n of user domains, the protection unit, whether it is closed, and its entries by kind.
-#[derive(Drop)]
+#[derive(Clone, Copy)]
 pub struct Summary {
     pub domains: usize,
     pub unit: u32,

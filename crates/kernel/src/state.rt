@@ -10,7 +10,7 @@ use semaphore::state::Semaphores;
 use tasks::state::Tasks;
 
 // Everything that the core holds; only the operations of this crate make one.
-#[derive(Drop)]
+#[derive(Clone, Copy)]
 pub struct State {
     // The number n of user domains.
     pub(crate) domains: usize,
@@ -23,7 +23,7 @@ pub struct State {
 }
 
 // What a call answers; `info` is what a refer tells, all zeros in any other answer.
-#[derive(Drop)]
+#[derive(Clone, Copy)]
 pub struct Answer {
     pub outcome: Outcome,
     pub word: u32,
@@ -33,7 +33,7 @@ pub struct Answer {
 }
 
 // What fresh, an entry and closing answer.
-#[derive(Drop)]
+#[derive(Clone, Copy)]
 pub struct Entered {
     pub code: i32,
     pub state: State,

@@ -9,14 +9,14 @@ use itron::limit::MAX_LEVEL;
 use model::svc::ExtendedCall;
 
 // What a call makes of its caller's level: a refusal's code, or the level after it.
-#[derive(Drop)]
+#[derive(Clone, Copy)]
 pub(crate) enum Changed {
     Refused(i32),
     To(u8),
 }
 
 // A call's end: its code and the levels after it.
-#[derive(Drop)]
+#[derive(Clone, Copy)]
 pub struct Effect {
     pub code: i32,
     pub levels: Levels,

@@ -6,7 +6,7 @@ ghost use Rattle.levels.specs.Form.{levels_as, with_level};
 use itron::limit::MAX_TASKS;
 
 // The level of the task with each index; 0 where there is none.
-#[derive(Drop)]
+#[derive(Clone, Copy)]
 pub struct Levels {
     pub(crate) entries: [u8; MAX_TASKS],
 }

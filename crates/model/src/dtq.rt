@@ -3,7 +3,7 @@ use crate::Patience;
 use access::vector::Vector;
 
 // A data queue's own calls: both sends, of a word; both receives; the forced send, of a word.
-#[derive(Drop)]
+#[derive(Clone, Copy)]
 pub enum QueueCall {
     Send(Patience, u32),
     Receive(Patience),
@@ -11,7 +11,7 @@ pub enum QueueCall {
 }
 
 // What can be asked of a data queue.
-#[derive(Drop)]
+#[derive(Clone, Copy)]
 pub enum QueueRequest {
     Own(QueueCall),
     Refer,

@@ -15,21 +15,21 @@ pub mod sem;
 pub mod svc;
 
 // What a call answers: a code, or that the caller waits.
-#[derive(Drop)]
+#[derive(Clone, Copy)]
 pub enum Outcome {
     Code(i32),
     Waiting,
 }
 
 // A released task's number with the word that it gets; 0 and 0 for none.
-#[derive(Drop)]
+#[derive(Clone, Copy)]
 pub struct Released {
     pub task: usize,
     pub word: u32,
 }
 
 // What a call tells its caller: the outcome, the word if any, and at most one released task.
-#[derive(Drop)]
+#[derive(Clone, Copy)]
 pub struct Reply {
     pub outcome: Outcome,
     pub word: u32,
@@ -51,7 +51,7 @@ impl Reply {
 
 // What a refer tells of an object: the first who waits on it (0 if none), of a queue the first who waits to send; the first on its
 // other side, of a queue who waits to receive; a semaphore's count, a queue's number of buffered words; its vector.
-#[derive(Drop)]
+#[derive(Clone, Copy)]
 pub struct Info {
     pub first: usize,
     pub second: usize,
@@ -70,14 +70,14 @@ impl Info {
 }
 
 // Whether a call that cannot be served at once gives up or waits.
-#[derive(Drop)]
+#[derive(Clone, Copy)]
 pub enum Patience {
     Polling,
     Forever,
 }
 
 // What a task can wait for: a semaphore, to receive from a queue, or to send to one.
-#[derive(Drop)]
+#[derive(Clone, Copy)]
 pub enum Side {
     OnSem,
     Receiving,
@@ -85,7 +85,7 @@ pub enum Side {
 }
 
 // A call's object by its kind and number, and what is asked of it; or what the caller does to its own level.
-#[derive(Drop)]
+#[derive(Clone, Copy)]
 pub enum Request {
     Semaphore(i32, SemaphoreRequest),
     Queue(i32, QueueRequest),

@@ -3,7 +3,7 @@ use crate::Patience;
 use access::vector::Vector;
 
 // A semaphore, as its entry gave it, with its present count and vector.
-#[derive(Drop)]
+#[derive(Clone, Copy)]
 pub struct Semaphore {
     pub domain: i32,
     pub attribute: u32,
@@ -13,14 +13,14 @@ pub struct Semaphore {
 }
 
 // A semaphore's own calls: signal; poll and wait.
-#[derive(Drop)]
+#[derive(Clone, Copy)]
 pub enum SemaphoreCall {
     Signal,
     Acquire(Patience),
 }
 
 // What can be asked of a semaphore.
-#[derive(Drop)]
+#[derive(Clone, Copy)]
 pub enum SemaphoreRequest {
     Own(SemaphoreCall),
     Refer,

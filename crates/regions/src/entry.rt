@@ -17,7 +17,7 @@ use access::vector::{Choice, Vector};
 use itron::code::{E_OBJ, E_OK, E_PAR, E_RSATR};
 use itron::limit::ADDRESS_END;
 
-#[derive(Drop)]
+#[derive(Clone, Copy)]
 pub struct RegionEntry {
     pub domain: i32,
     pub attribute: u32,

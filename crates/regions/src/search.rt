@@ -5,7 +5,7 @@ ghost use Rattle.regions.specs.Search.{InOrder, covered_by, lookup};
 use itron::limit::MAX_REGIONS;
 
 // The index of a region, if there is one.
-#[derive(Drop)]
+#[derive(Clone, Copy)]
 pub enum Found {
     At(usize),
     Nothing,

@@ -11,7 +11,7 @@ use access::vector::Vector;
 use itron::limit::MAX_REGIONS;
 
 // What a region has besides its place.
-#[derive(Drop)]
+#[derive(Clone, Copy)]
 pub struct Protection {
     pub(crate) domain: i32,
     pub(crate) attribute: u32,
@@ -27,7 +27,7 @@ impl Protection {
 }
 
 // The first `count` cells of each array are used, the others are zeros. Bases and sizes are arrays of numbers, so that they can be lent.
-#[derive(Drop)]
+#[derive(Clone, Copy)]
 pub struct Regions {
     pub(crate) count: usize,
     pub(crate) bases: [u32; MAX_REGIONS],
@@ -38,7 +38,7 @@ pub struct Regions {
 }
 
 // A region as it is shown; all zeros where there is none.
-#[derive(Drop)]
+#[derive(Clone, Copy)]
 pub struct RegionInfo {
     pub domain: i32,
     pub attribute: u32,

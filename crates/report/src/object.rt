@@ -10,7 +10,7 @@ use crate::task::put_task;
 use kernel::state::State;
 
 // The kinds of objects.
-#[derive(Drop)]
+#[derive(Clone, Copy)]
 pub enum Kind {
     Tasks,
     Semaphores,

@@ -21,7 +21,7 @@ use tasks::task::Wait;
 use tasks::wait::{Ended, First};
 
 // What a call gives: the reply, what a refer tells, and the tasks and the semaphores after it.
-#[derive(Drop)]
+#[derive(Clone, Copy)]
 pub struct Effect {
     pub reply: Reply,
     pub info: Info,

@@ -15,7 +15,7 @@ use itron::limit::MAX_COUNT;
 use model::attribute;
 use model::sem::Semaphore;
 
-#[derive(Drop)]
+#[derive(Clone, Copy)]
 pub struct SemaphoreEntry {
     pub domain: i32,
     pub attribute: u32,

@@ -17,7 +17,7 @@ use model::check::Target;
 use model::sem::Semaphore;
 
 // The first `count` records; the others are zeros.
-#[derive(Drop)]
+#[derive(Clone, Copy)]
 pub struct Semaphores {
     pub(crate) count: usize,
     pub(crate) records: [Semaphore; MAX_SEMAPHORES],

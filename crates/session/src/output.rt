@@ -3,7 +3,7 @@ use libc::STDOUT_FILENO;
 use report::output::LONGEST_LINE;
 
 // How many bytes the block has, and whether all that went out before was written.
-#[derive(Drop)]
+#[derive(Clone, Copy)]
 pub struct Output {
     pub at: usize,
     pub written: bool,

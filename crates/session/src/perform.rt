@@ -17,7 +17,7 @@ use report::output::{BLOCK, put, put_byte};
 use report::show::{put_answer, put_audit};
 
 // The state after a command, and the output then.
-#[derive(Drop)]
+#[derive(Clone, Copy)]
 pub struct Made {
     pub output: Output,
     pub state: State,

@@ -9,7 +9,7 @@ use command::request::requested;
 use kernel::state::State;
 use report::output::{BLOCK, put};
 
-#[derive(Drop)]
+#[derive(Clone, Copy)]
 pub struct Session {
     // The open file that is read.
     pub input: i32,

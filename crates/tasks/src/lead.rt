@@ -3,7 +3,7 @@ ghost use Rattle.std.specs.Prelude.{◌≡◌};
 ghost use Rattle.tasks.specs.Leads.{lead_of};
 
 // The number of the most urgent so far with its priority; 0 and 0 before the first.
-#[derive(Drop)]
+#[derive(Clone, Copy)]
 pub(crate) struct Lead {
     pub(crate) number: usize,
     pub(crate) priority: u8,

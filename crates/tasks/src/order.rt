@@ -6,7 +6,7 @@ ghost use Rattle.tasks.specs.Orders.{kept_of, order_of, without};
 use itron::limit::MAX_TASKS;
 
 // Indexes of tasks by arrival: the first `count` entries; the others are 0.
-#[derive(Drop)]
+#[derive(Clone, Copy)]
 pub(crate) struct Order {
     pub(crate) entries: [u8; MAX_TASKS],
     pub(crate) count: usize,

@@ -13,7 +13,7 @@ use crate::order;
 use crate::task::{Task, Wait};
 use itron::limit::MAX_TASKS;
 
-#[derive(Drop)]
+#[derive(Clone, Copy)]
 pub struct Tasks {
     pub(crate) count: usize,
     pub(crate) entries: [Task; MAX_TASKS],

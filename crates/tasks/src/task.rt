@@ -4,7 +4,7 @@ ghost use Rattle.tasks.specs.View.{with_wait};
 
 // What a task does: ready, or waiting with the index of its object. An index is a number less 1; indexes of tasks and objects
 // are kept as bytes, since the whole state is copied by every call.
-#[derive(Drop)]
+#[derive(Clone, Copy)]
 pub enum Wait {
     Ready,
     OnSem(u8),
@@ -13,7 +13,7 @@ pub enum Wait {
 }
 
 // Domain (-1 to 32) and priority as bytes, for the same reason.
-#[derive(Drop)]
+#[derive(Clone, Copy)]
 pub struct Task {
     pub(crate) domain: i8,
     pub(crate) priority: u8,

@@ -14,21 +14,21 @@ use itron::code::{E_OK, E_TMOUT};
 use model::{Outcome, Patience, Released, Reply, Side};
 
 // The first who waits at a place, with its word.
-#[derive(Drop)]
+#[derive(Clone, Copy)]
 pub enum First {
     Nobody,
     Waiter(usize, u32),
 }
 
 // Who calls: a ready task with its domain, or nobody who may.
-#[derive(Drop)]
+#[derive(Clone, Copy)]
 pub enum Caller {
     Nobody,
     Ready(usize, i32),
 }
 
 // A call's end that changes the tasks only.
-#[derive(Drop)]
+#[derive(Clone, Copy)]
 pub struct Ended {
     pub reply: Reply,
     pub tasks: Tasks,
