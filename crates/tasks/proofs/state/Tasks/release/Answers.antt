@@ -1,0 +1,7 @@
+-- `Tasks::release` meets its contract. Assumes nothing.
+use Rattle.tasks.proofs.Changes.{release_link}
+use Rattle.tasks.proofs.state.Tasks.release.Goals as goal
+
+pub returns : goal.returns
+returns c =
+    release_link c.requires.0 c.args.task c.with_wait-ready.result c.without-rest.result c.requires.1 c.with_wait-ready.ensures c.without-rest.ensures
