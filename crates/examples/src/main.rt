@@ -1,5 +1,6 @@
 // Each script of examples/ that is named as an argument, under its name, as `replay` makes it.
 #![tactic(auto)]
+
 use libc::STDOUT_FILENO;
 
 // Where a script begins, the output says which.

@@ -1,5 +1,6 @@
 // The commands of standard input, each with its answer on standard output (docs/replay.md).
 #![tactic(auto)]
+
 use libc::{STDERR_FILENO, STDIN_FILENO};
 
 fn main() {

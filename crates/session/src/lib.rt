@@ -1,5 +1,6 @@
 // Commands from an open file, one to a line, made on the kernel; each with its answer on standard output (docs/replay.md).
 #![tactic(auto)]
+
 ghost use Rattle.kernel.specs.Valid.{Valid};
 
 use itron::limit::MIN_UNIT;

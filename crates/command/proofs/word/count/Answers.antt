@@ -19,11 +19,12 @@ pub loop-i-preserved : goal.loop-i-preserved
 loop-i-preserved c =
     let t = c.args.text.now in
     let h = c.loop-i-test.true in
-    elim c.if-text-i-eq-SPACE.branch
-    [ then-text-i-eq-SPACE w ↦
-      let e = spaces_one t c.loop-i.i h w.if-text-i-eq-SPACE.true in (omega arith, omega arith, omega arith)
-    | else-text-i-eq-SPACE w ↦
-      let e = spaces_none t c.loop-i.i h w.if-text-i-eq-SPACE.false in (omega arith, omega arith, omega arith) ]
+    elim c.if-text-i-eq-SPACE.branch [
+      | then-text-i-eq-SPACE w ↦
+          let e = spaces_one t c.loop-i.i h w.if-text-i-eq-SPACE.true in (omega arith, omega arith, omega arith)
+      | else-text-i-eq-SPACE w ↦
+          let e = spaces_none t c.loop-i.i h w.if-text-i-eq-SPACE.false in (omega arith, omega arith, omega arith)
+    ]
 
 pub returns : goal.returns
 returns c =
