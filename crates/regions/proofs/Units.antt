@@ -3,7 +3,7 @@ use Prim.Native.Nat.{ℕ, zero, suc, ◌+◌, ◌-◌, ◌*◌, ◌^◌, ◌/◌
 use native.Mathlib.Omega.{arith}
 use native.Mathlib.Nat.{pow-suc}
 use mathlib.Core.Path.{◌≡◌, refl, sym, ap, ◌∙◌}
-use mathlib.Core.Bool.{Bool, true, false, ◌&&◌, ◌||◌, and-true, and-false, or_false}
+use mathlib.Core.Bool.{Bool, true, false, ◌&&◌, ◌||◌, and-true, and-false, or-false}
 use lib.Count.{ones, ones_step, ones_cat}
 use lib.Dec.{eqb, leb}
 use lib.Pow.{pow_pos}
@@ -44,7 +44,7 @@ module _ (e u : ℕ) (h : u < 2 ^ suc (suc e)) where
       top (eqb u (2 ^ suc e)) refl l ∙ ap (λ (b : Bool). b || eqb u (2 ^ suc e)) (sym (above_powers e u (omega (arith, pow-suc 2 e, pow_pos e))))
   next f false q =
       let l = leb-false (2 ^ suc e) u q in
-      f l ∙ sym (or_false (is_power_to e u)) ∙ ap (λ (b : Bool). is_power_to e u || b) (sym (ne_eqb u (2 ^ suc e) (omega arith)))
+      f l ∙ sym (or-false (is_power_to e u)) ∙ ap (λ (b : Bool). is_power_to e u || b) (sym (ne_eqb u (2 ^ suc e) (omega arith)))
 
 -- below 2^(e+1), a number with one bit is one of 2^0 to 2^e
 one_bit : (e u : ℕ) → u < 2 ^ suc e → eqb (ones u) 1 ≡ is_power_to e u

@@ -1,0 +1,10 @@
+-- `Queues::has_room` meets its contract. Assumes nothing.
+use mathlib.Core.Path.{ap}
+use lib.Dec.{ltb}
+use Rattle.dataqueue.specs.declared.state.Queue.{Queue}
+use Rattle.dataqueue.proofs.Links.{record_seen}
+use Rattle.dataqueue.proofs.state.Queues.has_room.Goals as goal
+
+pub returns : goal.returns
+returns c =
+    ap (λ (q : Queue). ltb q.len q.capacity) (record_seen c.requires.0 c.args.object c.requires.1)

@@ -1,0 +1,12 @@
+-- `State::ref_sem` meets its contract. Assumes nothing.
+use mathlib.Core.Path.{refl}
+use mir.Facts.{to_z-of_z}
+use Rattle.model.specs.Acts.{refer}
+use Rattle.model.specs.Calls.{on_semaphore}
+use Rattle.kernel.proofs.Calls.{semaphores, on_part, tells}
+use Rattle.kernel.proofs.state.State.ref_sem.Goals as goal
+
+pub returns : goal.returns
+returns c =
+    let a = c.args in
+    tells c.requires a.caller (on_semaphore a.id refer) refl (on_part c.requires (semaphores c.requires) a.caller a.id refer (on_semaphore a.id refer) refl (rw (to_z-of_z c.ranges.caller, to_z-of_z c.ranges.id) at c.semaphore_effect.ensures) c.with_semaphores.ensures)

@@ -1,0 +1,12 @@
+-- `State::sac_dtq` meets its contract. Assumes nothing.
+use mathlib.Core.Path.{refl}
+use mir.Facts.{to_z-of_z}
+use Rattle.model.specs.Acts.{set_vector}
+use Rattle.model.specs.Calls.{on_queue}
+use Rattle.kernel.proofs.Calls.{queues, on_part}
+use Rattle.kernel.proofs.state.State.sac_dtq.Goals as goal
+
+pub returns : goal.returns
+returns c =
+    let a = c.args in
+    on_part c.requires (queues c.requires) a.caller a.id (set_vector a.vector) (on_queue a.id (set_vector a.vector)) refl (rw (to_z-of_z c.ranges.caller, to_z-of_z c.ranges.id) at c.queue_effect.ensures) c.with_queues.ensures

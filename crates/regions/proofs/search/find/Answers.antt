@@ -1,0 +1,91 @@
+-- `regions::search::find` meets its contract. The invariant: a round halves what is left, and what is left decides. Assumes nothing.
+use Prim.Native.Nat.{ℕ, ◌-◌, ◌<◌}
+use mathlib.Core.Path.{◌≡◌, sym, ◌∙◌, ap, subst}
+use mathlib.Core.Bool.{Bool, cond}
+use mathlib.Core.Logic.{⊎_elim}
+use borrow.Author.Rules.{rules}
+use native.Mathlib.Omega.{arith}
+use Rattle.regions.specs.declared.search.Found.TheVariants.{At, Nothing}
+use Rattle.regions.specs.Search.{lookup}
+use Rattle.regions.proofs.Searches.{no_region_lem}
+use Rattle.regions.proofs.Halving.{Left, keep_all, half_of_these, half_of_all, rounds, begin, some_left, twice_left, halve, decides}
+use Rattle.regions.proofs.search.find.Goals as goal
+use Rattle.regions.proofs.search.find.Goals.{then-half-count, else-half-count+then-half-count-2, else-half-count+else-half-count-2}
+
+pub returns-then-count-eq0 : goal.returns-then-count-eq0
+returns-then-count-eq0 c =
+    let a = c.args in
+    sym (no_region_lem a.bases.now a.sizes.now a.address a.count 0 c.if-count-eq0.true)
+
+pub loop-round-init : goal.loop-round-init
+loop-round-init c =
+    begin c.requires.2.few (omega (arith, c.if-count-eq0.false))
+
+pub overflow_mul-half : goal.overflow_mul-half
+overflow_mul-half c = let f = c.loop-round.invariant.few in omega arith
+
+pub overflow_add-first : goal.overflow_add-first
+overflow_add-first c =
+    let f = c.loop-round.invariant.few in let l = c.loop-round.invariant.left.inside in search rules
+
+pub half_from-first-requires : goal.half_from-first-requires
+half_from-first-requires c =
+    let v = twice_left c.loop-round.invariant (omega (arith, c.loop-round-test.true)) in
+    let w = v.within (omega arith) in
+    let n = c.requires.0 in
+    omega arith
+
+pub half_from-first-requires-then-half-count-2 : goal.half_from-first-requires-then-half-count-2
+half_from-first-requires-then-half-count-2 c =
+    let o = some_left c.loop-round.invariant (omega (arith, c.loop-round-test.true)) in
+    let n = c.requires.0 in
+    omega arith
+
+pub loop-round-preserved : goal.loop-round-preserved
+loop-round-preserved c =
+    let a = c.args in
+    let i = c.loop-round in
+    let l : i.round < rounds = omega (arith, c.loop-round-test.true) in
+    let o = some_left i.invariant l in
+    let v = twice_left i.invariant l in
+    let kept : ℕ → Type 0 = λ f. Left a.bases.now a.sizes.now a.count a.address f i.half in
+    halve i.invariant l c.if-half-count.first
+    (elim c.if-half-count.branch
+      [ then-half-count w ↦
+        subst kept (sym (w.first-is ∙ w.half_from-first.ensures)) (half_of_these v o c.requires.2 w.if-half-count.true)
+      | else-half-count+then-half-count-2 w ↦
+        subst kept (sym (w.first-is ∙ w.half_from-first-then-half-count-2.ensures))
+        (half_of_all v o c.requires.2 w.if-half-count.false w.if-half-count-2.true)
+      | else-half-count+else-half-count-2 w ↦
+        subst kept (sym w.first-is) (keep_all v o w.if-half-count-2.false) ])
+
+pub offset_bounds-bases-first : goal.offset_bounds-bases-first
+offset_bounds-bases-first c = let l = c.loop-round.invariant.left.inside in search rules
+
+pub bounds-bases-first : goal.bounds-bases-first
+bounds-bases-first c = let l = c.loop-round.invariant.left.inside in search rules
+
+pub offset_bounds-sizes-first : goal.offset_bounds-sizes-first
+offset_bounds-sizes-first c = let l = c.loop-round.invariant.left.inside in search rules
+
+pub bounds-sizes-first : goal.bounds-sizes-first
+bounds-sizes-first c = let l = c.loop-round.invariant.left.inside in search rules
+
+pub covers-requires : goal.covers-requires
+covers-requires c = tt
+
+pub returns-then-covers : goal.returns-then-covers
+returns-then-covers c =
+    let i = c.loop-round in
+    sym
+    (decides i.invariant (omega (arith, c.loop-round-test.false))
+    ∙ ap (λ (b : Bool). cond b (At i.first) Nothing) (sym c.covers.ensures)
+    ∙ ap (λ (b : Bool). cond b (At i.first) Nothing) c.if-covers.true)
+
+pub returns : goal.returns
+returns c =
+    let i = c.loop-round in
+    sym
+    (decides i.invariant (omega (arith, c.loop-round-test.false))
+    ∙ ap (λ (b : Bool). cond b (At i.first) Nothing) (sym c.covers.ensures)
+    ∙ ap (λ (b : Bool). cond b (At i.first) Nothing) c.if-covers.false)

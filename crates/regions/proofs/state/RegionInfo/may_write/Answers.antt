@@ -1,0 +1,10 @@
+-- `RegionInfo::may_write` meets its contract. Assumes nothing.
+use mathlib.Core.Bool.{not, ◌&&◌}
+use mir.Facts.{to_z-of_z}
+use Rattle.regions.proofs.state.RegionInfo.may_write.Goals as goal
+
+pub returns : goal.returns
+returns c =
+    let h = c.has.ensures in
+    let m = rw (to_z-of_z c.ranges.domain) at c.admits.ensures in
+    λ i. not (h i) && m i

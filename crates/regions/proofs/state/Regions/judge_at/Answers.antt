@@ -1,0 +1,42 @@
+-- `Regions::judge_at` meets its contract: the area leaves the chain, a wish is denied, or neither. Assumes nothing.
+use native.Mathlib.Omega.{arith}
+use mathlib.Core.Path.{◌≡◌, ap, ◌∙◌}
+use lib.ListN.{drop}
+use mir.Facts.{to_z-of_z}
+use Rattle.model.specs.Answers.{result_of}
+use Rattle.model.specs.Regions.{allows, judge_in}
+use Rattle.regions.specs.declared.state.RegionInfo.{RegionInfo}
+use Rattle.regions.specs.View.{regions_of, shown_as}
+use Rattle.regions.proofs.Cells.{count_of}
+use Rattle.regions.proofs.Checks.{judges, judged_at}
+use Rattle.regions.proofs.state.Regions.judge_at.Goals as goal
+
+pub returns-then-not-inside : goal.returns-then-not-inside
+returns-then-not-inside c =
+    let ladder : let a = c.args in judges c.reaches-inside.result c.allows-allowed.result ≡ result_of (judge_in (drop a.index (regions_of a.self)) a.domain a.base a.size a.wishes) = let a = c.args in
+    let n = count_of c.requires.held in
+    let l = c.requires.low in
+    let p = c.reaches-inside.ensures in
+    let q = rw (to_z-of_z c.ranges.domain) at c.allows-allowed.ensures ∙ ap (λ (r : RegionInfo). allows (shown_as r) a.domain a.wishes) c.requires.same in
+    (λ i. judges (p i) (q i)) ∙ judged_at (regions_of a.self) a.index (omega arith) a.domain a.base a.size a.wishes in
+    rw c.if-not-inside.true at ladder
+
+pub returns-then-not-allowed : goal.returns-then-not-allowed
+returns-then-not-allowed c =
+    let ladder : let a = c.args in judges c.reaches-inside.result c.allows-allowed.result ≡ result_of (judge_in (drop a.index (regions_of a.self)) a.domain a.base a.size a.wishes) = let a = c.args in
+    let n = count_of c.requires.held in
+    let l = c.requires.low in
+    let p = c.reaches-inside.ensures in
+    let q = rw (to_z-of_z c.ranges.domain) at c.allows-allowed.ensures ∙ ap (λ (r : RegionInfo). allows (shown_as r) a.domain a.wishes) c.requires.same in
+    (λ i. judges (p i) (q i)) ∙ judged_at (regions_of a.self) a.index (omega arith) a.domain a.base a.size a.wishes in
+    rw (c.if-not-inside.false, c.if-not-allowed.true) at ladder
+
+pub returns : goal.returns
+returns c =
+    let ladder : let a = c.args in judges c.reaches-inside.result c.allows-allowed.result ≡ result_of (judge_in (drop a.index (regions_of a.self)) a.domain a.base a.size a.wishes) = let a = c.args in
+    let n = count_of c.requires.held in
+    let l = c.requires.low in
+    let p = c.reaches-inside.ensures in
+    let q = rw (to_z-of_z c.ranges.domain) at c.allows-allowed.ensures ∙ ap (λ (r : RegionInfo). allows (shown_as r) a.domain a.wishes) c.requires.same in
+    (λ i. judges (p i) (q i)) ∙ judged_at (regions_of a.self) a.index (omega arith) a.domain a.base a.size a.wishes in
+    rw (c.if-not-inside.false, c.if-not-allowed.false) at ladder
