@@ -1,5 +1,6 @@
 // Answers and the state as text (docs/replay.md, "Output"): each function puts bytes into a block and answers how many it then has. No I/O.
 #![tactic(auto)]
+
 pub mod dtq;
 pub mod line;
 pub mod mem;
