@@ -1,5 +1,5 @@
 -- Where each answer stands in the slice, and each of its words. Assumes nothing.
-use Prim.Native.Nat.{ℕ, suc, ◌+◌, ◌*◌, ◌≤◌, ◌<◌}
+use Prim.Native.Nat.{ℕ, zero, suc, ◌+◌, ◌*◌, ◌≤◌, ◌<◌}
 use native.Mathlib.Nat.{eq-or-lt_of_le}
 use native.Mathlib.Omega.{arith}
 use mathlib.Core.Path.{◌≡◌, refl, sym, ap, ◌∙◌, subst}
@@ -78,6 +78,7 @@ module _ (m : Model.State) (ws : List ℕ) where
   answer_of k = answer_to (after m (calls_in (items_in ws k))) (item_at ws k)
 
   answer_at : (n k : ℕ) → k < n → take 11 (drop (k * 11) (answers_of m (items_in ws n))) ≡ answer_of k
+  answer_at zero k l = elim l [ ]
   answer_at (suc n) k l = ap (λ (r : List ℕ). take 11 (drop (k * 11) r)) (answers_next m (item_at ws n) (items_in ws n)) ∙ go (eq-or-lt_of_le (omega arith)) (answer_at n k)
     where
       told : List ℕ
