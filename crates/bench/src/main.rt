@@ -1,6 +1,7 @@
 // The bench runs and the easy slips of document 01, with forced sends, priority order, extended service calls, units, chains of regions
 // and bytes handed out (document 02, T-05, T-10, T-03, T-06, T-09 and T-13), through the kernel's public operations, a line for each step.
 #![tactic(auto)]
+
 pub mod calls;
 pub mod chains;
 pub mod entries;

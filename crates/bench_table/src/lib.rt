@@ -1,5 +1,6 @@
 // The bench table of document 01 ("Bench runs"), built and closed by the kernel's operations.
 #![tactic(auto)]
+
 ghost use Rattle.std.specs.Prelude.{◌≡◌, pos, take, drop};
 ghost use Rattle.access.specs.declared.vector.Choice.TheVariants as Choices;
 ghost use Rattle.model.specs.Table.{fresh};

@@ -1,5 +1,6 @@
 // Lists of calls as numbers, run on the bench table of document 01; of each answer its code, and what else is not 0.
 #![tactic(auto)]
+
 pub mod list;
 pub mod lists;
 pub mod run;

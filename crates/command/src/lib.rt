@@ -1,5 +1,6 @@
 // What a line of `replay`'s input asks. Bytes in, a command and its echo out: no input or output, and no kernel.
 #![tactic(auto)]
+
 pub mod call;
 pub mod dtq;
 pub mod entry;

@@ -1,5 +1,6 @@
 // The search for the region that holds an address, for a host that lends the arrays. It is exported alone, so that it can be timed alone.
 #![tactic(auto)]
+
 ghost use Rattle.std.specs.Prelude.{◌≡◌, ◌≤◌, length};
 ghost use Rattle.regions.specs.Search.{InOrder, lookup};
 ghost use Rattle.finding.specs.Index.{index_of};

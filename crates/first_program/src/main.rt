@@ -1,5 +1,6 @@
 // A program of one's own: a queue that is private to domain 1, and a send from each of two domains.
 #![tactic(auto)]
+
 use access::vector::Choice;
 use dataqueue::entry::QueueEntry;
 use itron::limit::MIN_UNIT;

@@ -1,5 +1,6 @@
 // For a host that links the core: a list of calls, made on the bench table of document 01.
 #![tactic(auto)]
+
 ghost use Rattle.host.specs.Hosted.{Hosted};
 
 use batch::run::run;

@@ -1,5 +1,6 @@
 // The kernel core (document 01): the state by value, and every operation on it.
 #![tactic(auto)]
+
 pub mod call;
 pub mod check;
 pub mod dtq;

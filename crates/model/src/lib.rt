@@ -1,5 +1,6 @@
 // The words that the kernel's code, its callers and its rules share (document 01). The rules are in specs/.
 #![tactic(auto)]
+
 ghost use Rattle.std.specs.Prelude.{◌≡◌};
 ghost use Rattle.model.specs.Answers.{plain};
 

@@ -1,5 +1,6 @@
 // Memory regions: the part of the kernel's state that holds them, their entries, and the memory verdict (documents 01 and 02).
 #![tactic(auto)]
+
 pub mod chain;
 pub mod entry;
 pub mod flag;

@@ -1,6 +1,7 @@
 // What bench-rust/ times: calls made in a loop, exported for a host. The numbers of the calls are the host's, so that the compiler
 // does not know them, and every call of the kernel is made somewhere, so that it does not know what is asked either.
 #![tactic(auto)]
+
 pub mod count;
 pub mod dtq;
 pub mod each;

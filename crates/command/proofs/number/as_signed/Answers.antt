@@ -12,14 +12,12 @@ use Rattle.command.proofs.number.as_signed.Goals as goal
 pub returns-then-value-le-LARGEST_SIGNED : goal.returns-then-value-le-LARGEST_SIGNED
 unfolding signed_of
 returns-then-value-le-LARGEST_SIGNED c =
-    let p = c.number-1 in
-    rw (to_z_pos w32 {n = p.given.0.0} (omega arith)) (sym (ap signed_of p.given.1 ∙ rw (lt-ltb p.given.0.0 signed_end (omega arith))))
+    rw (to_z_pos w32 {n = c.in-Plain.value} (omega arith)) (sym (ap signed_of c.in-Plain.is ∙ rw (lt-ltb c.in-Plain.value signed_end (omega arith))))
 
 pub returns-then-value : goal.returns-then-value
 unfolding signed_of
 returns-then-value c =
-    let p = c.number-in-Minus-1 in
-    sym (ap signed_of p.given.1 ∙ rw (lt-ltb signed_end p.given.0.0 c.if-value.true))
+    sym (ap signed_of c.in-Minus.is ∙ rw (lt-ltb signed_end c.in-Minus.value c.if-value.true))
 
 pub returns-in-NoNumber : goal.returns-in-NoNumber
 unfolding signed_of
@@ -32,14 +30,12 @@ returns-in-OutOfRange c = search rules
 pub returns-else-value-le-LARGEST_SIGNED : goal.returns-else-value-le-LARGEST_SIGNED
 unfolding signed_of
 returns-else-value-le-LARGEST_SIGNED c =
-    let p = c.number-1 in
-    sym (ap signed_of p.given.1 ∙ rw (le-ltb p.given.0.0 signed_end (omega arith)))
+    sym (ap signed_of c.in-Plain.is ∙ rw (le-ltb c.in-Plain.value signed_end (omega arith)))
 
 pub returns-else-value : goal.returns-else-value
 unfolding signed_of
 returns-else-value c =
-    let p = c.number-in-Minus-1 in
-    let v = p.given.0.0 in
+    let v = c.in-Minus.value in
     let e : c.negative.result ≡ negated v = c.negative.ensures in
     rw (e, to_z-of_z (negated_fits v c.if-value.false))
-    (sym (ap signed_of p.given.1 ∙ rw (le-ltb signed_end v c.if-value.false)))
+    (sym (ap signed_of c.in-Minus.is ∙ rw (le-ltb signed_end v c.if-value.false)))

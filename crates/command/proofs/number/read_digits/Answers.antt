@@ -65,7 +65,7 @@ returns-then-value-gt-LARGEST c =
     ∙ ap fitted (value_goes t a.base c.loop-i.value c.loop-i.i c.loop-i-test.true d)
     ∙ rw (c.wide.ensures, c.wide-in-loop-i.ensures, e) in
     let a = c.args in
-    c.too_large_lem.ensures
+    c.too_large.ensures
     ∙ ap (too_large a.base) c.rest.ensures
     ∙ sym (more ∙ too_large_lem a.base _ _ c.if-value-gt-LARGEST.true)
 

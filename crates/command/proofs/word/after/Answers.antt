@@ -5,8 +5,8 @@ use Rattle.command.proofs.word.after.Goals as goal
 
 pub returns-then-end-text : goal.returns-then-end-text
 returns-then-end-text c =
-    (past_space c.args.text.now c.args.from c.end_of_lem.result c.end_of_lem.ensures.0, search rules)
+    (past_space c.args.text.now c.args.from c.end_of-end.result c.end_of-end.ensures.0, search rules)
 
 pub returns : goal.returns
 returns c =
-    (past_last c.args.text.now c.args.from c.end_of_lem.result c.end_of_lem.ensures.0 c.if-end-text.false, search rules)
+    (past_last c.args.text.now c.args.from c.end_of-end.result c.end_of-end.ensures.0 c.if-end-text.false, search rules)

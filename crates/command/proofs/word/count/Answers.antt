@@ -5,6 +5,7 @@ use native.Mathlib.Omega.{arith}
 use Rattle.command.proofs.Walks.{spaces_one, spaces_none, spaces_end, words_some, words_empty}
 use mathlib.Core.Logic.{⊎_elim}
 use Rattle.command.proofs.word.count.Goals as goal
+use Rattle.command.proofs.word.count.Goals.{then-text-i-eq-SPACE, else-text-i-eq-SPACE}
 
 pub returns-then-text-eq0 : goal.returns-then-text-eq0
 returns-then-text-eq0 c = sym (words_empty c.args.text.now c.if-text-eq0.true)
@@ -18,9 +19,12 @@ pub loop-i-preserved : goal.loop-i-preserved
 loop-i-preserved c =
     let t = c.args.text.now in
     let h = c.loop-i-test.true in
-    ⊎_elim (λ w. let e = spaces_one t c.loop-i.i h w.0.taken in (omega arith, omega arith, omega arith))
-    (λ w. let e = spaces_none t c.loop-i.i h w.0.left in (omega arith, omega arith, omega arith))
-    c.if-text-i-eq-SPACE.branch
+    elim c.if-text-i-eq-SPACE.branch [
+      | then-text-i-eq-SPACE w ↦
+          let e = spaces_one t c.loop-i.i h w.if-text-i-eq-SPACE.true in (omega arith, omega arith, omega arith)
+      | else-text-i-eq-SPACE w ↦
+          let e = spaces_none t c.loop-i.i h w.if-text-i-eq-SPACE.false in (omega arith, omega arith, omega arith)
+    ]
 
 pub returns : goal.returns
 returns c =

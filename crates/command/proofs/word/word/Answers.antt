@@ -16,7 +16,7 @@ loop-left-preserved c =
 
 pub returns : goal.returns
 returns c =
-    let e = c.end_of_lem.ensures.0 in
+    let e = c.end_of-end.ensures.0 in
     let t = c.args.text.now in
-    let n : c.end_of_lem.result - c.loop-left.start ≡ space_at (drop c.loop-left.start t) = omega arith in
+    let n : c.end_of-end.result - c.loop-left.start ≡ space_at (drop c.loop-left.start t) = omega arith in
     ap (λ (m : ℕ). take m (drop c.loop-left.start t)) n ∙ sym (c.loop-left.invariant.1 ∙ word_here c.loop-left.left (drop c.loop-left.start t) (omega arith))

@@ -50,14 +50,15 @@ loop-round-preserved c =
     let v = twice_left i.invariant l in
     let kept : ℕ → Type 0 = λ f. Left a.bases.now a.sizes.now a.count a.address f i.half in
     halve i.invariant l c.if-half-count.first
-    (elim c.if-half-count.branch
-      [ then-half-count w ↦
-        subst kept (sym (w.first-is ∙ w.half_from-first.ensures)) (half_of_these v o c.requires.2 w.if-half-count.true)
+    (elim c.if-half-count.branch [
+      | then-half-count w ↦
+          subst kept (sym (w.first-is ∙ w.half_from-first.ensures)) (half_of_these v o c.requires.2 w.if-half-count.true)
       | else-half-count+then-half-count-2 w ↦
-        subst kept (sym (w.first-is ∙ w.half_from-first-then-half-count-2.ensures))
-        (half_of_all v o c.requires.2 w.if-half-count.false w.if-half-count-2.true)
+          subst kept (sym (w.first-is ∙ w.half_from-first-then-half-count-2.ensures))
+          (half_of_all v o c.requires.2 w.if-half-count.false w.if-half-count-2.true)
       | else-half-count+else-half-count-2 w ↦
-        subst kept (sym w.first-is) (keep_all v o w.if-half-count-2.false) ])
+          subst kept (sym w.first-is) (keep_all v o w.if-half-count-2.false)
+    ])
 
 pub offset_bounds-bases-first : goal.offset_bounds-bases-first
 offset_bounds-bases-first c = let l = c.loop-round.invariant.left.inside in search rules

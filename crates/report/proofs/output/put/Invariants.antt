@@ -1,5 +1,6 @@
--- `output::put` is safe and ends. The loop's invariant: the place stays within the text. Assumes nothing.
-use Rattle.std.proofs.Common.{length, ◌-◌, ◌≤◌}
+-- `report::output::put` is safe and ends. The measure is what is left of the text. Assumes nothing.
+use Prim.Native.Nat.{◌-◌, ◌≤◌}
+use lib.ListN.{length}
 use Rattle.report.proofs.output.put.Given as goal
 
 abbrev pub invariant-loop-i : goal.invariant-loop-i

@@ -84,14 +84,15 @@ loop-i-preserved c =
     let l : length a.self.order ≡ max_tasks = search rules in (
       omega arith,
       omega arith,
-      elim c.if-waits_at.branch
-        [ then-waits_at+else-ahead-eq0 w ↦
-          v.2
-          ∙ count_off a.self.entries p a.self.order a.self.waiting i (omega arith) (omega arith) (cc) k w.if-ahead-eq0.false
-          ∙ ap (λ (n : ℕ). get_or (numbers_from a.self.entries p a.self.order a.self.waiting (i + 1)) n 0) (sym w.ahead-is)
+      elim c.if-waits_at.branch [
+        | then-waits_at+else-ahead-eq0 w ↦
+            v.2
+            ∙ count_off a.self.entries p a.self.order a.self.waiting i (omega arith) (omega arith) (cc) k w.if-ahead-eq0.false
+            ∙ ap (λ (n : ℕ). get_or (numbers_from a.self.entries p a.self.order a.self.waiting (i + 1)) n 0) (sym w.ahead-is)
         | else-waits_at w ↦
-          let e = pass a.self.entries p a.self.order a.self.waiting i (omega arith) (omega arith) (cc) in
-          v.2 ∙ (λ j. get_or (e j) (sym w.ahead-is j) 0) ],
+            let e = pass a.self.entries p a.self.order a.self.waiting i (omega arith) (omega arith) (cc) in
+            v.2 ∙ (λ j. get_or (e j) (sym w.ahead-is j) 0)
+      ],
     )
 
 pub returns : goal.returns

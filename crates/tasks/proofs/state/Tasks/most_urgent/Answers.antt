@@ -83,11 +83,12 @@ loop-i-preserved c =
     let l : length a.self.order ≡ max_tasks = search rules in (
       omega arith,
       omega arith,
-      elim c.if-waits_at.branch
-        [ then-waits_at w ↦
-          scan_next r (n 0) (n i) (n (i + 1)) c.loop-i.lead c.if-waits_at.lead v (get_or a.self.order i 0) (here es p a.self.order a.self.waiting i (omega arith) (omega arith) (cc)) (w.lead-is ∙ w.against-lead.ensures)
+      elim c.if-waits_at.branch [
+        | then-waits_at w ↦
+            scan_next r (n 0) (n i) (n (i + 1)) c.loop-i.lead c.if-waits_at.lead v (get_or a.self.order i 0) (here es p a.self.order a.self.waiting i (omega arith) (omega arith) (cc)) (w.lead-is ∙ w.against-lead.ensures)
         | else-waits_at w ↦
-          scan_pass r (n 0) (n i) (n (i + 1)) c.loop-i.lead c.if-waits_at.lead v (pass es p a.self.order a.self.waiting i (omega arith) (omega arith) (cc)) w.lead-is ],
+            scan_pass r (n 0) (n i) (n (i + 1)) c.loop-i.lead c.if-waits_at.lead v (pass es p a.self.order a.self.waiting i (omega arith) (omega arith) (cc)) w.lead-is
+      ],
     )
 
 pub returns : goal.returns

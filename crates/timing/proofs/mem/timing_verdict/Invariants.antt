@@ -1,0 +1,16 @@
+-- `mem::timing_verdict` is safe and ends: the state stays valid. Assumes nothing.
+use Rattle.std.proofs.Common.{◌-◌, ◌<◌, ◌≤◌, length}
+use Rattle.kernel.specs.Valid.{Valid}
+use Rattle.timing.proofs.mem.timing_verdict.Given as goal
+
+abbrev pub invariant-loop-i : goal.invariant-loop-i
+invariant-loop-i l = (l.i ≤ l.count) × (l.count ≤ length l.domains) × (l.count ≤ length l.bases) × (l.round < l.rounds) × Valid l.s
+
+abbrev pub decreases-loop-i : goal.decreases-loop-i
+decreases-loop-i l = l.count - l.i
+
+abbrev pub invariant-loop-round : goal.invariant-loop-round
+invariant-loop-round l = (l.round ≤ l.rounds) × (l.count ≤ length l.domains) × (l.count ≤ length l.bases) × Valid l.s
+
+abbrev pub decreases-loop-round : goal.decreases-loop-round
+decreases-loop-round l = l.rounds - l.round

@@ -1,0 +1,10 @@
+-- `order::timing_receive_once` is safe and ends. Assumes nothing.
+use Rattle.std.proofs.Common.{◌-◌, ◌≤◌}
+use Rattle.kernel.specs.Valid.{Valid}
+use Rattle.timing.proofs.order.timing_receive_once.Given as goal
+
+abbrev pub invariant-loop-round : goal.invariant-loop-round
+invariant-loop-round l = (l.round ≤ l.rounds) × Valid l.start
+
+abbrev pub decreases-loop-round : goal.decreases-loop-round
+decreases-loop-round l = l.rounds - l.round
