@@ -7,8 +7,7 @@ use batch::run::run;
 use bench_table::closed;
 
 // How many of the calls were answered.
-#[unsafe(no_mangle)]
-pub extern "C" fn host_run(calls: &[u32], answers: &mut [u32]) -> usize
+pub fn host_run(calls: &[u32], answers: &mut [u32]) -> usize
     ensures { Hosted calls.now answers.old answers.new result }
 {
     let ran = run(closed(), calls, answers);
