@@ -1,5 +1,5 @@
 // The lines of memory regions: the entry's, the verdict's and the hand-out's.
-ghost use Rattle.command.specs.Shapes.{Small};
+ghost use Rattle.command.specs.Shapes.{Small, Wide};
 
 use crate::entry::Entry;
 use crate::flaw::Flaw;
@@ -68,7 +68,7 @@ pub fn probe(numbers: Numbers) -> Command {
 
 // A domain asks for an area, base and size, out of flash and out of RAM, each with its base and its length.
 pub fn hand_out_shape() -> Shape
-    ensures { Small result }
+    ensures { Wide result }
 {
     Shape::fixed(1, 6)
 }

@@ -3,7 +3,7 @@ use crate::entry::Entry;
 use crate::flaw::Flaw;
 use crate::mem::HandOut;
 use crate::numbers::Numbers;
-use crate::verb::{command_of, limited, shape_of, with_numbers};
+use crate::verb::{command_of, limited, takes, with_numbers};
 use crate::word;
 use access::vector::Vector;
 use model::Request;
@@ -45,13 +45,13 @@ impl Command {
 
 // A command of the line's first word, given the count of numbers after it.
 fn with_count(text: &[u8], command: Command, count: usize) -> Command {
-    let takes = shape_of(command);
-    let fewest = takes.signed + takes.unsigned;
-    let most = fewest + takes.optional;
+    let shape = takes(command);
+    let fewest = shape.signed + shape.unsigned;
+    let most = fewest + shape.optional;
     if count != fewest && count != most {
         return Command::Bad(Flaw::Count(fewest, most, count));
     }
-    let numbers = limited(command, Numbers::of(text, takes.signed, count));
+    let numbers = limited(command, Numbers::of(text, shape.signed, count));
     let flaw = numbers.flaw;
     match flaw {
         Flaw::None => with_numbers(command, numbers, fewest < count),

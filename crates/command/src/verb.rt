@@ -1,5 +1,5 @@
 // A command's first word, and the numbers that follow it.
-ghost use Rattle.command.specs.Shapes.{Small};
+ghost use Rattle.command.specs.Shapes.{Small, Wide};
 
 use crate::entry::Entry;
 use crate::flaw::Flaw;
@@ -43,19 +43,32 @@ pub fn command_of(word: &[u8]) -> Command {
         .or(svc::named(word))
 }
 
-// The numbers that a command takes follow from what it holds.
+// The numbers that a command takes follow from what it holds; those of a hand-out are told by `takes`.
 pub fn shape_of(command: Command) -> Shape
     ensures { Small result }
 {
     match command {
-        Command::Blank | Command::Bad(_) | Command::Say | Command::Close | Command::Dump =>
-            Shape::fixed(0, 0),
+        Command::Blank
+        | Command::Bad(_)
+        | Command::Say
+        | Command::Close
+        | Command::Dump
+        | Command::HandOut(_) => Shape::fixed(0, 0),
         Command::Fresh(_, _) => Shape::open(0, 1),
         Command::Entry(entry) => entry::shape_of(entry),
         Command::Call(_, request) => call::shape_of(request),
         Command::Probe { .. } => mem::probe_shape(),
-        Command::HandOut(_) => mem::hand_out_shape(),
         Command::Audit(_, _) => Shape::fixed(1, PATTERNS),
+    }
+}
+
+// The numbers that any command takes.
+pub fn takes(command: Command) -> Shape
+    ensures { Wide result }
+{
+    match command {
+        Command::HandOut(_) => mem::hand_out_shape(),
+        _ => shape_of(command),
     }
 }
 

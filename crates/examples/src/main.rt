@@ -1,39 +1,26 @@
 // Each script of examples/ that is named as an argument, under its name, as `replay` makes it.
 #![tactic(auto)]
 
-use libc::STDOUT_FILENO;
-
-// Where a script begins, the output says which.
-fn head(name: &[u8]) {
-    io::write_all(STDOUT_FILENO, b"==== ");
-    io::write_all(STDOUT_FILENO, name);
-    io::write_all(STDOUT_FILENO, b"\n");
-}
+use std::io::Stdout;
+use std::rt::Files;
+use std::{env, fs, io};
 
 // A script that cannot be opened leaves its name alone in the output, and the reason on standard error.
-fn show(name: &[u8]) {
-    head(name);
-    let script = os::open_read(name);
-    if script < 0 {
-        os::fail(name);
-        return;
+fn show<R: Files + Print + Eprint>(rt: &R, to: Stdout, name: &str) -> io::Result<()> {
+    println!(rt; "==== {name}")?;
+    match fs::open(rt, name) {
+        Ok(mut script) => {
+            session::run(&mut script, to);
+            Ok(())
+        }
+        Err(error) => eprintln!(rt; "{name}: {error}"),
     }
-    session::run(script);
-    libc::close(script);
 }
 
 // The argument before the first is the program's own name.
-fn show_argument(k: usize) {
-    let mut name = io::buffer();
-    let length = os::arg(k, &mut name);
-    show(&name[..length]);
-}
-
-fn main() {
-    let count = os::arg_count();
-    let mut k = 1;
-    while k < count {
-        show_argument(k);
-        k += 1;
+fn main(rt: HostRuntime) -> io::Result<()> {
+    for name in env::args(&rt)?.skip(1) {
+        show(&rt, rt.stdout(), name.as_str())?;
     }
+    Ok(())
 }

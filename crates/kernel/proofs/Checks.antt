@@ -29,7 +29,6 @@ use Rattle.model.specs.declared.check.Check.TheVariants.{Refused, Admitted}
 use Rattle.model.specs.declared.check.Target.{Target}
 use Rattle.model.specs.declared.check.Target.TheVariants.{OutOfRange, Missing, At}
 use Rattle.tasks.specs.declared.wait.Caller.{Caller}
-use Rattle.tasks.specs.declared.wait.Caller.TheVariants as Caller
 use Rattle.model.specs.contracts.check.Target.{the_type as target_type}
 use Rattle.tasks.specs.contracts.wait.Caller.{the_type as caller_type}
 use Rattle.tasks.specs.Held.{Free, Passed}

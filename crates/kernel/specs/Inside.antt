@@ -18,7 +18,6 @@ use Rattle.model.specs.declared.check.Target.{Target}
 use Rattle.model.specs.declared.check.Target.TheVariants.{OutOfRange, Missing, At}
 use Rattle.tasks.specs.declared.state.Tasks.{Tasks}
 use Rattle.tasks.specs.declared.wait.Caller.{Caller}
-use Rattle.tasks.specs.declared.wait.Caller.TheVariants as Caller
 use Rattle.levels.specs.declared.state.Levels.{Levels}
 use Rattle.levels.specs.declared.call.Effect.{Effect}
 use Rattle.levels.specs.Form.{levels_as}

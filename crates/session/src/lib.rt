@@ -1,4 +1,4 @@
-// Commands from an open file, one to a line, made on the kernel; each with its answer on standard output (docs/replay.md).
+// Commands from an input, one to a line, made on the kernel; each with its answer on standard output (docs/replay.md).
 #![tactic(auto)]
 
 ghost use Rattle.kernel.specs.Valid.{Valid};
@@ -7,6 +7,7 @@ use itron::limit::MIN_UNIT;
 use kernel::state::State;
 use report::output::BLOCK;
 use session::Session;
+use std::io::{Read, Stdout};
 
 pub mod dump;
 pub mod flaw;
@@ -17,21 +18,21 @@ pub mod session;
 
 // A proved loop has to end, and nothing says that the input does. So the loop counts its turns down, from a number that
 // no run uses up.
-fn run_from(start: State, input: i32) -> bool
+fn run_from<R: Read>(start: State, input: &mut R, to: Stdout) -> bool
     requires { Valid start }
 {
     let mut block = [0u8; BLOCK];
     let mut out = [0u8; BLOCK];
-    let mut session = Session::begin(start, input);
+    let mut session = Session::begin(start, to);
     let mut turns = u64::MAX;
     while turns > 0 && session.going {
-        session = session.turn(&mut block, &mut out);
+        session = session.turn(input, &mut block, &mut out);
         turns -= 1;
     }
     session.finish(&mut out)
 }
 
-// Makes the commands of an open file, from the empty table for n = 0 and unit 1 on; whether all answers could be written.
-pub fn run(input: i32) -> bool {
-    run_from(State::fresh(0, MIN_UNIT).state, input)
+// Makes the commands of an input, from the empty table for n = 0 and unit 1 on; whether all answers could be written.
+pub fn run<R: Read>(input: &mut R, to: Stdout) -> bool {
+    run_from(State::fresh(0, MIN_UNIT).state, input, to)
 }

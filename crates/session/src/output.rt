@@ -1,17 +1,19 @@
 // The block of output goes out when it has no room for another line, and when the program is about to read on.
-use libc::STDOUT_FILENO;
 use report::output::LONGEST_LINE;
+use std::io::Stdout;
 
-// How many bytes the block has, and whether all that went out before was written.
+// Where the block goes, how many bytes it has, and whether all that went out before was written.
 #[derive(Clone, Copy)]
 pub struct Output {
+    pub to: Stdout,
     pub at: usize,
     pub written: bool,
 }
 
 impl Output {
-    pub fn empty() -> Output {
+    pub fn empty(to: Stdout) -> Output {
         Output {
+            to,
             at: 0,
             written: true,
         }
@@ -27,15 +29,16 @@ impl Output {
         let at = self.at;
         let written = self.written;
         if !written {
-            return Output { at: 0, written };
+            return Output { at: 0, ..self };
         }
         if at <= out.len() {
             return Output {
                 at: 0,
-                written: io::write_all(STDOUT_FILENO, &out[..at]),
+                written: self.to.write_all(&out[..at]).is_ok(),
+                ..self
             };
         }
-        Output { at: 0, written }
+        Output { at: 0, ..self }
     }
 
     // Makes room for another line.

@@ -1,4 +1,4 @@
-// A run over an open file: bytes come in by blocks, each whole line is made, and the output goes out before the program reads on.
+// A run over an input: bytes come in by blocks, each whole line is made, and the output goes out before the program reads on.
 ghost use Rattle.kernel.specs.Valid.{Valid};
 
 use crate::output::Output;
@@ -8,11 +8,10 @@ use command::parse::Command;
 use command::request::requested;
 use kernel::state::State;
 use report::output::{BLOCK, put};
+use std::io::{Read, Stdout};
 
 #[derive(Clone, Copy)]
 pub struct Session {
-    // The open file that is read.
-    pub input: i32,
     // The table and its tasks.
     pub state: State,
     // The line so far.
@@ -69,17 +68,16 @@ pub(crate) fn head(block: &[u8], end: usize) -> &[u8] {
 }
 
 impl Session {
-    pub fn begin(state: State, input: i32) -> Session
+    pub fn begin(state: State, to: Stdout) -> Session
         requires { Valid state }
         ensures { Valid result.state }
     {
         Session {
-            input,
             state,
             line: Line::empty(),
             next: 0,
             end: 0,
-            output: Output::empty(),
+            output: Output::empty(to),
             going: true,
         }
     }
@@ -102,7 +100,13 @@ impl Session {
     }
 
     // The block is used up: what was put goes out, and the next bytes come in.
-    fn with_block(self, block: &mut [u8; BLOCK], out: &mut [u8; BLOCK], line: Line) -> Session
+    fn with_block<R: Read>(
+        self,
+        input: &mut R,
+        block: &mut [u8; BLOCK],
+        out: &mut [u8; BLOCK],
+        line: Line,
+    ) -> Session
         requires { Valid self.state }
         ensures { Valid result.state }
     {
@@ -114,8 +118,8 @@ impl Session {
                 ..self
             };
         }
-        let got = libc::read(self.input, block);
-        let end = io::count(got, block);
+        // A read that fails counts as the end of the input.
+        let end = input.read(block).unwrap_or(0);
         Session {
             line,
             next: 0,
@@ -127,7 +131,12 @@ impl Session {
     }
 
     // Takes bytes up to the end of a line or of the block.
-    pub fn turn(self, block: &mut [u8; BLOCK], out: &mut [u8; BLOCK]) -> Session
+    pub fn turn<R: Read>(
+        self,
+        input: &mut R,
+        block: &mut [u8; BLOCK],
+        out: &mut [u8; BLOCK],
+    ) -> Session
         requires { Valid self.state }
         ensures { Valid result.state }
     {
@@ -139,7 +148,7 @@ impl Session {
         if taken.ended {
             return self.with_line(out, line, taken.next);
         }
-        self.with_block(block, out, line)
+        self.with_block(input, block, out, line)
     }
 
     // The last line may lack its LF; whether all answers could be written.

@@ -9,7 +9,7 @@ use mathlib.Core.List.{List, [], ◌∷◌, map}
 use lib.ListN.{length, get_or, take, drop}
 use lib.Seq.{drop-cons, get_or-take, length-take-le}
 use Rattle.model.specs.Lists.{keep}
-use Rattle.model.specs.State.{Place, place, same_place}
+use Rattle.model.specs.State.{Place, same_place}
 use Rattle.model.specs.Waits.{stands_at}
 use Rattle.tasks.specs.declared.task.Task.{Task}
 use Rattle.tasks.specs.View.{no_task, waiter_of, waiter_at}

@@ -10,7 +10,6 @@ use Rattle.tasks.specs.declared.task.Task.{Task}
 use Rattle.tasks.specs.declared.wait.First.{First}
 use Rattle.tasks.specs.declared.wait.First.TheVariants.{Nobody, Waiter as FirstIs}
 use Rattle.tasks.specs.declared.wait.Caller.{Caller}
-use Rattle.tasks.specs.declared.wait.Caller.TheVariants as Caller
 use Rattle.tasks.specs.declared.wait.Ended.{Ended}
 use Rattle.tasks.specs.View.{no_task}
 use Rattle.tasks.specs.Form.{task_as, tasks_as, wait_for}

@@ -3,7 +3,7 @@
 use lib.ListN.{length, get_or, set}
 use mathlib.Core.List.{List}
 use borrow.Author.Rules.{rules}
-use Prim.Native.Nat.{ℕ, suc, ◌+◌, ◌-◌}
+use Prim.Native.Nat.{ℕ, suc, ◌+◌}
 use native.Mathlib.Omega.{arith}
 use mathlib.Core.Path.{◌≡◌, sym, ap, ◌∙◌}
 use lib.Seq.{paste, paste-zero, paste-suc, length-paste}

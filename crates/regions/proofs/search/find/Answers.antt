@@ -1,12 +1,10 @@
 -- `regions::search::find` meets its contract. The invariant: a round halves what is left, and what is left decides. Assumes nothing.
-use Prim.Native.Nat.{ℕ, ◌-◌, ◌<◌}
-use mathlib.Core.Path.{◌≡◌, sym, ◌∙◌, ap, subst}
+use Prim.Native.Nat.{ℕ, ◌<◌}
+use mathlib.Core.Path.{sym, ◌∙◌, ap, subst}
 use mathlib.Core.Bool.{Bool, cond}
-use mathlib.Core.Logic.{⊎_elim}
 use borrow.Author.Rules.{rules}
 use native.Mathlib.Omega.{arith}
 use Rattle.regions.specs.declared.search.Found.TheVariants.{At, Nothing}
-use Rattle.regions.specs.Search.{lookup}
 use Rattle.regions.proofs.Searches.{no_region_lem}
 use Rattle.regions.proofs.Halving.{Left, keep_all, half_of_these, half_of_all, rounds, begin, some_left, twice_left, halve, decides}
 use Rattle.regions.proofs.search.find.Goals as goal

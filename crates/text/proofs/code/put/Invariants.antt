@@ -1,7 +1,5 @@
--- `code::put` meets its contract: byte by byte. Assumes nothing.
-use Prim.Native.Nat.{◌≤◌, ◌-◌}
-use mathlib.Core.Path.{◌≡◌}
-use lib.ListN.{length}
+-- `code::put` meets its contract. The loop's invariant: the place stays within the block. Assumes nothing.
+use Rattle.std.proofs.Common.{◌-◌, ◌≡◌, ◌≤◌, length}
 use Rattle.text.specs.Names.{longest_name}
 use Rattle.text.proofs.code.put.Given as goal
 

@@ -11,7 +11,6 @@ use Rattle.itron.specs.Codes.{e_oacv, number_of}
 use Rattle.model.specs.State.{no}
 use Rattle.model.specs.declared.check.Check.TheVariants.{Refused, Admitted}
 use Rattle.tasks.specs.declared.wait.Caller.{Caller}
-use Rattle.tasks.specs.declared.wait.Caller.TheVariants as Caller
 use Rattle.kernel.specs.View.{view_of}
 use Rattle.kernel.specs.Inside.{caller_in, checked_by}
 use Rattle.kernel.proofs.Checks.{nobody, is_out, is_missing}

@@ -1,8 +1,7 @@
 -- `Regions::check` meets its contract, in the order of the checks. Assumes nothing.
 use mathlib.Core.Path.{◌≡◌}
-use mathlib.Core.Bool.{Bool, ◌&&◌}
+use mathlib.Core.Bool.{◌&&◌}
 use lib.Dec.{leb}
-use borrow.Author.Tests.{not-true, not-false}
 use Rattle.model.specs.Answers.{result_of}
 use Rattle.model.proofs.Units.{unit_pos}
 use Rattle.regions.specs.View.{regions_of}

@@ -3,7 +3,7 @@ use Prim.Native.Nat.{◌-◌, ◌<◌}
 use mathlib.Core.Path.{◌≡◌}
 use lib.ListN.{drop, get_or}
 use Rattle.model.specs.State.{no_region}
-use Rattle.model.specs.Regions.{end, in_chain}
+use Rattle.model.specs.Regions.{in_chain}
 use Rattle.regions.specs.View.{regions_of, info_of}
 use Rattle.regions.proofs.state.Regions.walk.Given as goal
 

@@ -1,16 +1,13 @@
 -- `Tasks::most_urgent` meets its contract. The loop's invariant: a scan along those at the place has come to the i-th in the order. Assumes nothing.
 use borrow.Author.Rules.{rules}
-use Prim.Native.Nat.{ℕ, suc, ◌+◌, ◌<◌, ◌-◌}
+use Prim.Native.Nat.{suc, ◌+◌, ◌<◌}
 use native.Mathlib.Omega.{arith}
 use mathlib.Core.Path.{◌≡◌, sym, ap, ◌∙◌}
-use mathlib.Core.Logic.{⊎_elim}
-use mathlib.Core.List.{List, []}
+use mathlib.Core.List.{[]}
 use lib.ListN.{length, get_or}
 use Rattle.itron.specs.Limits.{max_tasks}
-use Rattle.model.specs.Lists.{at}
 use Rattle.model.specs.State.{place}
-use Rattle.tasks.specs.declared.task.Task.{Task}
-use Rattle.tasks.specs.View.{no_task, waits_of}
+use Rattle.tasks.specs.View.{waits_of}
 use Rattle.tasks.proofs.Back.{order_low}
 use Rattle.tasks.proofs.Waiters.{numbers_from, none_left, pass, here}
 use Rattle.tasks.proofs.Leads.{first_by, scan_start, scan_next, scan_pass, scan_end}
