@@ -2,13 +2,9 @@
 use Rattle.std.specs.Prelude.{ℕ, zero, suc, ◌+◌, ◌-◌, ◌*◌, Bool, true, cond, ◌&&◌, List, [], ◌∷◌, ℤ, pos, negsuc, drop, get_or, eqb, ltb, leb}
 use Rattle.std.proofs.Math.Option.{Option, none, some}
 use Rattle.command.specs.declared.number.Magnitude.{Magnitude}
-use Rattle.command.specs.declared.number.Magnitude.TheVariants as Magnitude
 use Rattle.command.specs.declared.number.Number.{Number}
-use Rattle.command.specs.declared.number.Number.TheVariants as Number
 use Rattle.command.specs.declared.number.Signed.{Signed}
-use Rattle.command.specs.declared.number.Signed.TheVariants as Signed
 use Rattle.command.specs.declared.number.Unsigned.{Unsigned}
-use Rattle.command.specs.declared.number.Unsigned.TheVariants as Unsigned
 
 -- 2^32 and 2^31
 abbrev pub plain_end : ℕ

@@ -1,5 +1,5 @@
 -- `command::number::are_digits` meets its contract. The invariant: what was seen are digits. The measure is what is left of the text. Assumes nothing.
-use Prim.Native.Nat.{◌-◌, ◌≤◌, ◌<◌}
+use Prim.Native.Nat.{◌≤◌, ◌<◌}
 use mathlib.Core.Path.{sym, ◌∙◌}
 use lib.ListN.{get_or}
 use borrow.Author.Rules.{rules}

@@ -1,9 +1,7 @@
 -- `command::word::count` meets its contract. The invariant: the words so far and the spaces left make the whole count. The measure is what is left of the text. Assumes nothing.
-use Prim.Native.Nat.{◌-◌}
 use mathlib.Core.Path.{sym}
 use native.Mathlib.Omega.{arith}
 use Rattle.command.proofs.Walks.{spaces_one, spaces_none, spaces_end, words_some, words_empty}
-use mathlib.Core.Logic.{⊎_elim}
 use Rattle.command.proofs.word.count.Goals as goal
 use Rattle.command.proofs.word.count.Goals.{then-text-i-eq-SPACE, else-text-i-eq-SPACE}
 

@@ -1,5 +1,4 @@
 -- `command::word::end_of` meets its contract. The invariant: the end is where it is looked for from here on. The measure is what is left of the text. Assumes nothing.
-use Prim.Native.Nat.{◌-◌}
 use native.Mathlib.Omega.{arith}
 use Rattle.command.proofs.Walks.{space_here, space_later, space_never}
 use Rattle.command.proofs.word.end_of.Goals as goal

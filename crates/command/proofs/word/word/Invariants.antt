@@ -1,5 +1,5 @@
 -- `command::word::word` meets its contract. The invariant: the word looked for is one of the rest. The measure is the count of words to pass. Assumes nothing.
-use Prim.Native.Nat.{◌-◌, ◌≤◌}
+use Prim.Native.Nat.{◌≤◌}
 use mathlib.Core.Path.{◌≡◌}
 use lib.ListN.{length, drop}
 use Rattle.command.specs.Words.{word_at}

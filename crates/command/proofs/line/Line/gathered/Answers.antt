@@ -1,5 +1,5 @@
 -- `command::line::Line::gathered` meets its contract. The invariant: what is to be gathered from here on is what was to be gathered at the start. The measure is what is left of the block. Assumes nothing.
-use Prim.Native.Nat.{◌+◌, ◌-◌}
+use Prim.Native.Nat.{◌+◌}
 use mathlib.Core.Path.{sym, ap, ◌∙◌}
 use lib.ListN.{drop}
 use Rattle.command.specs.Lines.{gathered_of}
