@@ -12,7 +12,7 @@ fn main() {
         let archive = folder.join(format!("lib{name}.a"));
         println!("cargo:rerun-if-changed={}", archive.display());
         if !archive.exists() {
-            panic!("target/staticlib/lib{name}.a is missing: run `rt staticlib {name}` first");
+            panic!("target/staticlib/lib{name}.a is missing: run `tools/staticlib {name}` first");
         }
         println!("cargo:rustc-link-lib=static={name}");
     }

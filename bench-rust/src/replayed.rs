@@ -11,7 +11,7 @@ use std::process::{Command, Stdio};
 
 const SEED: u64 = 88_172_645_463_325_252;
 const SCRIPTS: u32 = 600;
-const PROGRAM: &str = "../target/bin/replay";
+const PROGRAM: &str = "../crates/replay/out/replay";
 
 const ENDS: [i32; 12] = [i32::MIN, -3, -2, -1, 0, 17, 33, 64, 65, 255, 256, i32::MAX];
 
