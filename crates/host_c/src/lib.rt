@@ -1,5 +1,6 @@
 // The archive that a host in C or Rust links: the function of crate `host`, exported under its name.
 #![tactic(auto)]
+
 ghost use Rattle.host.specs.Hosted.{Hosted};
 
 // How many of the calls were answered.
