@@ -13,7 +13,7 @@ use lib.Count.{ones}
 use borrow.Author.Tests.{lt-ltb, le-leb, lt-leb, eq-eqb, ne_eqb, ltb-true, ltb-false, eqb-true}
 use Rattle.itron.specs.Limits.{max_domains}
 use Rattle.access.specs.declared.vector.Vector.{Vector}
-use Rattle.access.specs.declared.vector.Choice.TheVariants.{Default, Given}
+use Rattle.std.specs.Prelude.{Some as Given, None as Default}
 use Rattle.access.specs.declared.vector.Operation.{Operation}
 use Rattle.access.specs.declared.vector.Operation.TheVariants.{Normal1, Normal2, Management, Reference}
 use Rattle.access.specs.declared.audit.Admissions.{Admissions}

@@ -1,13 +1,15 @@
 -- Laws of `ordinal_of`, by the sign of the number. Assumes nothing.
 use Prim.Native.Nat.{ℕ, zero, suc, ◌≤◌, ◌<◌}
 use native.Mathlib.Omega.{arith}
-use mathlib.Core.Path.{◌≡◌, refl, ap}
+use mathlib.Core.Path.{◌≡◌, refl, sym, ap}
+use mathlib.Core.Logic.{◌≢◌}
 use mathlib.Core.Bool.{Bool, true, false, cond}
 use lib.IntN.{ℤ, pos, negsuc, nat_abs}
 use lib.Signed.{lt_z, non_neg}
 use lib.Dec.{T, leb}
 use borrow.Author.Tests.{le-leb, lt-leb, ltb-true, ltb-false, leb-true, leb-false}
-use Rattle.access.specs.Domains.{ordinal_of}
+use Rattle.std.specs.Prelude.{Some, None, unwrap_or}
+use Rattle.access.specs.Domains.{ordinal_of, numbered}
 
 -- a number below 1
 pub ordinal_low : (z : ℤ) (n : ℕ) → lt_z z (pos 1) ≡ true → 0 ≡ ordinal_of z n
@@ -32,6 +34,23 @@ ordinal_over z n h l = rw (not_below z 1 h).0 (simp (lt-leb (nat_abs z) n l))
 pub ordinal_in : (z : ℤ) (n : ℕ) → lt_z z (pos 1) ≡ false → nat_abs z ≤ n → nat_abs z ≡ ordinal_of z n
 unfolding ordinal_of
 ordinal_in z n h l = rw (not_below z 1 h).0 (simp (le-leb (nat_abs z) n l))
+
+-- what stands for a number that counts from 1, or for none
+pub numbered_in : (n : ℕ) → n ≢ 0 → Some n ≡ numbered n
+numbered_in zero h = absurd (h refl)
+numbered_in (suc k) h = refl
+
+pub numbered_none : (n : ℕ) → numbered n ≡ None → n ≡ 0
+numbered_none zero e = refl
+numbered_none (suc k) e = absurd (let z : ◌≡◌ {A = ℕ} 0 1 = cc in omega arith)
+
+pub numbered_some : (n k : ℕ) → numbered n ≡ Some k → (k ≡ n) × (k ≢ 0)
+numbered_some zero k e = absurd (let z : ◌≡◌ {A = ℕ} 0 1 = cc in omega arith)
+numbered_some (suc j) k e = let s : suc j ≡ k = ap (λ o. unwrap_or o 0) e in (sym s, λ h. omega (arith, s, h))
+
+pub numbered_or_0 : (n : ℕ) → unwrap_or (numbered n) 0 ≡ n
+numbered_or_0 zero = refl
+numbered_or_0 (suc k) = refl
 
 -- an ordinal is at most the limit
 pub ordinal_le : (z : ℤ) (n : ℕ) → ordinal_of z n ≤ n

@@ -2,18 +2,12 @@
 use Prim.Native.Nat.{ℕ, zero, suc, ◌-◌, ◌^◌}
 use native.Mathlib.Omega.{arith}
 use mathlib.Core.Path.{◌≡◌, refl, sym, ap}
-use mathlib.Core.List.{[], ◌∷◌}
 use lib.IntN.{ℤ, pos, negsuc}
-use types.Run.{OneOf}
-use denote.Enum.Declared.{tag_of}
 use borrow.Author.Tests.{lt-ltb, le-ltb}
 use Rattle.itron.specs.Limits.{max_domains}
 use Rattle.access.specs.Domains.{ordinal_of}
 use Rattle.access.specs.Patterns.{all_zeros, all_ones}
-use Rattle.access.specs.Vectors.{uniform, private_of, default_of, resolved}
-use Rattle.access.specs.declared.vector.Choice.{Choice}
-use Rattle.access.specs.declared.vector.Choice.TheVariants.{Default, Given}
-use Rattle.access.specs.contracts.vector.Choice.{the_type}
+use Rattle.access.specs.Vectors.{uniform, private_of, default_of}
 use Rattle.access.proofs.Ordinals.{ordinal_user, ordinal_none}
 
 pub private_none : (z : ℤ) → ordinal_of z max_domains ≡ 0 → uniform all_zeros ≡ private_of z
@@ -36,8 +30,3 @@ default_other (pos k) g = refl
 default_other (negsuc zero) g = refl
 default_other (negsuc (suc zero)) g = absurd (g refl)
 default_other (negsuc (suc (suc k))) g = refl
-
--- the arm of an entry that gives no vector
-pub by_default : (z : ℤ) (v : Choice) → OneOf (0 ∷ []) (tag_of the_type v) → default_of z ≡ resolved z v
-by_default z Default t = refl
-by_default z (Given v) t = absurd (omega arith)

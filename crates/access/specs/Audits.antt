@@ -1,7 +1,8 @@
 -- The audit report (document 01, "Patterns and vectors"). Definitions only.
 use Rattle.std.specs.Prelude.{ℕ, zero, suc, ◌+◌, cond, ℤ, pos, negsuc, leb}
 use Rattle.itron.specs.Limits.{max_domains}
-use Rattle.itron.specs.Codes.{ok_number, e_par, number_of}
+use Rattle.itron.specs.Codes.{ok_number, number_of}
+use Rattle.itron.specs.declared.error.Error.TheVariants.{Par as e_par}
 use Rattle.access.specs.Patterns.{admitted}
 use Rattle.access.specs.declared.vector.Vector.{Vector}
 use Rattle.access.specs.declared.audit.Admissions.{Admissions}

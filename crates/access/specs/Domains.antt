@@ -1,10 +1,15 @@
 -- Domain numbers, and numbers that count from 1 to a limit (document 01, "What the core holds"; request T-03). Definitions only.
-use Rattle.std.specs.Prelude.{ℕ, zero, suc, Bool, false, cond, ℤ, pos, negsuc, leb, eqb}
+use Rattle.std.specs.Prelude.{ℕ, zero, suc, Bool, false, cond, ℤ, pos, negsuc, leb, eqb, Option, Some, None}
 
 -- a number from 1 to the limit, as it is; 0 of any other
 unfoldable pub ordinal_of : ℤ → ℕ → ℕ
 ordinal_of (pos k) limit = cond (leb k limit) k 0
 ordinal_of (negsuc k) limit = 0
+
+-- a number that counts from 1, 0 standing for none
+abbrev pub numbered : ℕ → Option ℕ
+numbered zero = None
+numbered (suc k) = Some (suc k)
 
 -- whether two domain numbers are the same
 abbrev pub same_domain : ℤ → ℤ → Bool

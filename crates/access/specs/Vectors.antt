@@ -1,12 +1,10 @@
 -- Vectors: four patterns (document 01, "Patterns and vectors"). Definitions only.
-use Rattle.std.specs.Prelude.{ℕ, zero, suc, ◌^◌, Bool, cond, ◌&&◌, ℤ, pos, negsuc, ltb, eqb}
+use Rattle.std.specs.Prelude.{ℕ, zero, suc, ◌^◌, Bool, cond, ◌&&◌, ℤ, pos, negsuc, ltb, eqb, Option, Some, None}
 use Rattle.itron.specs.Limits.{max_domains}
 use Rattle.access.specs.Patterns.{all_zeros, all_ones}
 use Rattle.access.specs.declared.vector.Vector.{Vector}
 use Rattle.access.specs.declared.vector.Operation.{Operation}
 use Rattle.access.specs.declared.vector.Operation.TheVariants.{Normal1, Normal2, Management, Reference}
-use Rattle.access.specs.declared.vector.Choice.{Choice}
-use Rattle.access.specs.declared.vector.Choice.TheVariants.{Default, Given}
 
 -- the pattern for a kind of operation
 abbrev pub pattern_of : Vector → Operation → ℕ
@@ -36,7 +34,11 @@ default_of (negsuc zero) = uniform all_zeros
 default_of (negsuc (suc zero)) = uniform all_ones
 default_of (negsuc (suc (suc k))) = uniform all_zeros
 
+-- what an entry says of its vector: which one it is, or nothing
+abbrev pub Choice : Type 0
+Choice = Option Vector
+
 -- "An entry without a vector takes the default"
 abbrev pub resolved : ℤ → Choice → Vector
-resolved domain Default = default_of domain
-resolved domain (Given v) = v
+resolved domain None = default_of domain
+resolved domain (Some v) = v

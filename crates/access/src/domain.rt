@@ -1,24 +1,24 @@
 // Domain numbers: special domains are below zero, user domains count from 1.
 ghost use Rattle.std.specs.Prelude.{◌≡◌};
-ghost use Rattle.access.specs.Domains.{ordinal_of, same_domain, running_of};
+ghost use Rattle.access.specs.Domains.{ordinal_of, numbered, same_domain, running_of};
 
 pub const KERNEL_DOMAIN: i32 = -1;
 
 // The owner of what belongs to no domain.
 pub const NO_DOMAIN: i32 = -2;
 
-// A number from 1 to the limit, as it is; 0 of any other. The sign is tested before the cast.
-pub fn ordinal(number: i32, limit: usize) -> usize
-    ensures { result ≡ ordinal_of number limit }
+// A number from 1 to the limit, as it is; none of any other. The sign is tested before the cast.
+pub fn ordinal(number: i32, limit: usize) -> Option<usize>
+    ensures { result ≡ numbered (ordinal_of number limit) }
 {
     if number < 1 {
-        return 0;
+        return None;
     }
     let n = number as usize;
     if limit < n {
-        return 0;
+        return None;
     }
-    n
+    Some(n)
 }
 
 // Whether two domain numbers are the same.

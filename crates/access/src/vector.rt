@@ -42,10 +42,9 @@ impl Vector {
     pub fn private(domain: i32) -> Vector
         ensures { result ≡ private_of domain }
     {
-        let d = ordinal(domain, MAX_DOMAINS);
-        if d == 0 {
+        let Some(d) = ordinal(domain, MAX_DOMAINS) else {
             return Vector::KERNEL;
-        }
+        };
         let bit: u32 = 1 << (d - 1);
         Vector {
             normal1: bit,
@@ -63,6 +62,13 @@ impl Vector {
             return Vector::SHARED;
         }
         Vector::private(domain)
+    }
+
+    // The vector of an entry of a domain: the one that it gives, or the default.
+    pub fn resolved(given: Option<Vector>, domain: i32) -> Vector
+        ensures { result ≡ resolved domain given }
+    {
+        given.unwrap_or(Vector::default_for(domain))
     }
 
     // Whether all four patterns are the same.
@@ -87,21 +93,3 @@ impl Vector {
     }
 }
 
-// What an entry says of its vector.
-#[derive(Clone, Copy)]
-pub enum Choice {
-    Default,
-    Given(Vector),
-}
-
-impl Choice {
-    // The vector of an entry of a domain.
-    pub fn resolve(self, domain: i32) -> Vector
-        ensures { result ≡ resolved domain self }
-    {
-        match self {
-            Choice::Given(vector) => vector,
-            Choice::Default => Vector::default_for(domain),
-        }
-    }
-}

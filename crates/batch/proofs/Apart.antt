@@ -5,7 +5,8 @@ use mathlib.Core.Bool.{false, cond}
 use mathlib.Core.List.{List}
 use lib.Dec.{eqb}
 use lib.ListN.{get_or}
-use Rattle.itron.specs.Codes.{Code, ok, waiting, error, e_sys, e_rsatr, e_par, e_id, e_ctx, e_macv, e_oacv, e_iluse, e_nomem, e_noid, e_obj, e_noexs, e_qovr, e_tmout}
+use Rattle.itron.specs.Codes.{Code, ok, waiting, error}
+use Rattle.itron.specs.declared.error.Error.TheVariants.{Sys as e_sys, Rsatr as e_rsatr, Par as e_par, Id as e_id, Ctx as e_ctx, Macv as e_macv, Oacv as e_oacv, Iluse as e_iluse, Nomem as e_nomem, Noid as e_noid, Obj as e_obj, Noexs as e_noexs, Qovr as e_qovr, Tmout as e_tmout}
 use Rattle.model.specs.Answers.{Answer, outcome_of, reply_of}
 use Rattle.model.proofs.Lists.{ne_of}
 use Rattle.batch.specs.Encoding.{outcome_word, encoded, no_call}

@@ -10,7 +10,8 @@ use lib.ListN.{length, get_or, drop}
 use borrow.Author.Tests.{ne_eqb}
 use types.Run.{OneOf}
 use denote.Enum.Declared.{tag_of}
-use Rattle.itron.specs.Codes.{e_iluse, number_of}
+use Rattle.itron.specs.Codes.{number_of}
+use Rattle.itron.specs.declared.error.Error.TheVariants.{Iluse as e_iluse}
 use Rattle.model.specs.State as Model
 use Rattle.model.specs.State.{TaskEntry, Waiter, place}
 use Rattle.model.specs.Waits.{waiters_in, by_priority, or_waits}

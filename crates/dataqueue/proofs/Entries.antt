@@ -8,10 +8,11 @@ use mathlib.Core.Option.{none}
 use lib.IntN.{ℤ}
 use lib.ListN.{length, set, length-append}
 use Rattle.access.specs.declared.vector.Vector.{Vector}
-use Rattle.access.specs.declared.vector.Choice.TheVariants.{Given}
+use Rattle.std.specs.Prelude.{Some as Given}
 use Rattle.arrays.specs.Pad.{pad}
 use Rattle.arrays.proofs.Pads.{pad_snoc}
-use Rattle.itron.specs.Codes.{e_rsatr, e_par, e_nomem, number_of, ok_number}
+use Rattle.itron.specs.Codes.{number_of, ok_number}
+use Rattle.itron.specs.declared.error.Error.TheVariants.{Rsatr as e_rsatr, Par as e_par, Nomem as e_nomem}
 use Rattle.itron.specs.Limits.{max_queues, max_words}
 use Rattle.model.specs.State as Model
 use Rattle.model.specs.Answers.{refuse_if, result_of}

@@ -1,7 +1,7 @@
 // The entry of a data queue (document 01, "Building the table").
 ghost use Rattle.std.specs.Prelude.{◌≡◌, [], ◌∷◌, ◌++◌, ◌+◌, ◌≤◌, ◌<◌, length};
 ghost use Rattle.itron.specs.Limits.{max_queues, max_words};
-ghost use Rattle.access.specs.declared.vector.Choice.TheVariants.{Given};
+ghost use Rattle.std.specs.Prelude.{Some as Given};
 ghost use Rattle.model.specs.Queues.{words_used, new_queue};
 ghost use Rattle.dataqueue.specs.View.{queues_of};
 ghost use Rattle.dataqueue.specs.Form.{queues_as};

@@ -1,9 +1,8 @@
 -- Result codes (document 01, "Codes a desk clerk sees"). Definitions only.
-use Rattle.std.specs.Prelude.{ℤ, pos, negsuc}
-
--- the refusals
-pub data Err : Type 0 where
-  e_sys e_rsatr e_par e_id e_ctx e_macv e_oacv e_iluse e_nomem e_noid e_obj e_noexs e_qovr e_tmout : Err
+use Rattle.std.specs.Prelude.{◌≡◌, ◌≢◌, ℤ, pos, negsuc, Result, Ok, Err as Refused}
+use Rattle.itron.specs.declared.error.Error.{Error as Err}
+use Rattle.itron.specs.declared.error.Error.TheVariants.{Sys as e_sys, Rsatr as e_rsatr, Par as e_par, Id as e_id, Ctx as e_ctx, Macv as e_macv, Oacv as e_oacv, Iluse as e_iluse, Nomem as e_nomem, Noid as e_noid, Obj as e_obj, Noexs as e_noexs, Qovr as e_qovr, Tmout as e_tmout}
+use Rattle.itron.specs.declared.error.NoError.{NoError}
 
 -- what a call answers: done, "waiting" (which is not a refusal and has no number), or a refusal
 pub data Code : Type 0 where
@@ -30,3 +29,13 @@ number_of e_obj = negsuc 40
 number_of e_noexs = negsuc 41
 number_of e_qovr = negsuc 42
 number_of e_tmout = negsuc 49
+
+-- the refusal that a number is, or that it is none's
+abbrev pub Decodes : ℤ → Result Err NoError → Type 0
+Decodes z (Ok e) = number_of e ≡ z
+Decodes z (Refused n) = (n ≡ record { 0 = z }) × ((e : Err) → number_of e ≢ z)
+
+-- what was checked or done, by its number
+abbrev pub code_of : Result Unit Err → ℤ
+code_of (Ok u) = ok_number
+code_of (Refused e) = number_of e

@@ -3,4 +3,5 @@
 
 pub mod attribute;
 pub mod code;
+pub mod error;
 pub mod limit;

@@ -4,7 +4,8 @@ use Prim.Native.Nat.{ℕ}
 use mathlib.Core.List.{List}
 use lib.IntN.{ℤ}
 use lib.ListN.{length}
-use Rattle.itron.specs.Codes.{Err, error}
+use Rattle.itron.specs.Codes.{error}
+use Rattle.itron.specs.declared.error.Error.{Error as Err}
 use Rattle.model.specs.State as Model
 use Rattle.model.specs.State.{TaskEntry}
 use Rattle.model.specs.Answers.{Out}

@@ -9,8 +9,10 @@ use lib.IntN.{ℤ, pos, negsuc}
 use lib.ListN.{length}
 use borrow.Author.Tests.{ltb-true, leb-true, ne_eqb}
 use Rattle.access.specs.Domains.{ordinal_of}
-use Rattle.access.specs.declared.vector.Choice.{Choice}
-use Rattle.itron.specs.Codes.{Err, e_sys, e_rsatr, e_par, e_id, e_ctx, e_macv, e_oacv, e_iluse, e_nomem, e_noid, e_obj, e_noexs, e_qovr, e_tmout, number_of, ok_number}
+use Rattle.access.specs.Vectors.{Choice}
+use Rattle.itron.specs.Codes.{number_of, ok_number}
+use Rattle.itron.specs.declared.error.Error.{Error as Err}
+use Rattle.itron.specs.declared.error.Error.TheVariants.{Sys as e_sys, Rsatr as e_rsatr, Par as e_par, Id as e_id, Ctx as e_ctx, Macv as e_macv, Oacv as e_oacv, Iluse as e_iluse, Nomem as e_nomem, Noid as e_noid, Obj as e_obj, Noexs as e_noexs, Qovr as e_qovr, Tmout as e_tmout}
 use Rattle.itron.specs.Limits.{max_domains, max_tasks, max_words, min_unit}
 use Rattle.model.specs.State as Model
 use Rattle.model.specs.Answers.{result_of, refuse_if}

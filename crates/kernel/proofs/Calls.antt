@@ -4,7 +4,7 @@ use mathlib.Core.Path.{◌≡◌, refl, sym, ap, ◌∙◌}
 use mathlib.Core.Bool.{true}
 use mathlib.Core.Option.{Option}
 use lib.IntN.{ℤ}
-use Rattle.itron.specs.Codes.{Err}
+use Rattle.itron.specs.declared.error.Error.{Error as Err}
 use Rattle.model.specs.State.{no}
 use Rattle.model.specs.Answers.{plain, no_info}
 use Rattle.model.specs.Acts.{Act}

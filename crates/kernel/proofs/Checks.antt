@@ -13,7 +13,9 @@ use types.Run.{OneOf}
 use denote.Enum.Declared.{tag_of}
 use Rattle.access.specs.Domains.{running_of}
 use Rattle.access.specs.Vectors.{pattern_of}
-use Rattle.itron.specs.Codes.{Err, e_ctx, e_id, e_par, e_noexs, e_oacv, number_of}
+use Rattle.itron.specs.Codes.{number_of}
+use Rattle.itron.specs.declared.error.Error.{Error as Err}
+use Rattle.itron.specs.declared.error.Error.TheVariants.{Ctx as e_ctx, Id as e_id, Par as e_par, Noexs as e_noexs, Oacv as e_oacv}
 use Rattle.model.specs.Lists.{index}
 use Rattle.model.specs.State as Model
 use Rattle.model.specs.State.{domain_at, level_at, running_at, no}

@@ -6,7 +6,9 @@ use mathlib.Core.List.{[]}
 use mathlib.Core.Option.{Option, none, some}
 use Prim.Native.Nat.{ℕ}
 use lib.IntN.{ℤ}
-use Rattle.itron.specs.Codes.{Err, e_ctx, e_par, e_noexs, number_of, ok_number}
+use Rattle.itron.specs.Codes.{number_of, ok_number}
+use Rattle.itron.specs.declared.error.Error.{Error as Err}
+use Rattle.itron.specs.declared.error.Error.TheVariants.{Ctx as e_ctx, Par as e_par, Noexs as e_noexs}
 use Rattle.model.specs.Answers.{refuse_if, result_of}
 use Rattle.model.specs.Verdict.{verdict}
 use Rattle.model.specs.Images.{Image, images_ok, holder, is_held, read_alone, once_allowed, hand_out, part_of, unless_refused, handed_bytes}

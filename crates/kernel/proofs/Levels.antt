@@ -7,7 +7,9 @@ use mathlib.Core.Bool.{Bool, not}
 use mathlib.Core.Option.{Option, none, some}
 use lib.IntN.{ℤ}
 use lib.ListN.{length, get_or}
-use Rattle.itron.specs.Codes.{Err, e_ctx, ok_number, number_of}
+use Rattle.itron.specs.Codes.{ok_number, number_of}
+use Rattle.itron.specs.declared.error.Error.{Error as Err}
+use Rattle.itron.specs.declared.error.Error.TheVariants.{Ctx as e_ctx}
 use Rattle.model.specs.Lists.{put}
 use Rattle.model.specs.State.{level_at, no}
 use Rattle.model.specs.Answers.{Out, plain, no_info, refuse_if}

@@ -1,6 +1,7 @@
 -- What each operation promises, whatever goes in: the whole answer with the complete state, refusals too. Definitions only.
 use Rattle.std.specs.Prelude.{◌≡◌, ℕ, ℤ}
-use Rattle.itron.specs.Codes.{Err, error}
+use Rattle.itron.specs.Codes.{error}
+use Rattle.itron.specs.declared.error.Error.{Error as Err}
 use Rattle.model.specs.Answers.{Out}
 use Rattle.model.specs.Table.{fresh}
 use Rattle.model.specs.Calls.{Call, step}

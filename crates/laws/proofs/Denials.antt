@@ -2,7 +2,8 @@
 use mathlib.Core.Path.{◌≡◌, sym, ap, ◌∙◌, subst}
 use mathlib.Core.Logic.{◌⊎◌, inl, inr}
 use mathlib.Core.List.{List}
-use Rattle.itron.specs.Codes.{error, e_oacv}
+use Rattle.itron.specs.Codes.{error}
+use Rattle.itron.specs.declared.error.Error.TheVariants.{Oacv as e_oacv}
 use Rattle.model.specs.State as Model
 use Rattle.model.specs.Answers.{outcome_of}
 use Rattle.model.specs.Table.{close}

@@ -8,7 +8,7 @@ use mathlib.Core.List.{List, [], ◌∷◌, ◌++◌, append-nil}
 use mathlib.Core.Option.{Option, none, some}
 use lib.IntN.{ℤ, pos, negsuc, neg_ℤ}
 use Rattle.access.specs.Vectors.{private_of}
-use Rattle.itron.specs.Codes.{Err}
+use Rattle.itron.specs.declared.error.Error.{Error as Err}
 use Rattle.itron.specs.Limits.{max_domains, min_unit}
 use Rattle.model.specs.State as Model
 use Rattle.model.specs.Answers.{Out, code_of, when_ok}

@@ -8,7 +8,7 @@ use lib.IntN.{ℤ, pos, negsuc}
 use lib.Dec.{leb}
 use lib.ListN.{length, drop}
 use Rattle.access.specs.Patterns.{admitted}
-use Rattle.itron.specs.Codes.{Err}
+use Rattle.itron.specs.declared.error.Error.{Error as Err}
 use Rattle.itron.specs.Limits.{max_domains}
 use Rattle.model.specs.State as Model
 use Rattle.model.specs.State.{Place, Waiter, no_queue, running_at}

@@ -2,8 +2,10 @@
 use Rattle.std.specs.Prelude.{ℕ, List, [], ◌∷◌, ℤ, pos, negsuc}
 use Rattle.std.proofs.Math.Option.{Option, none, some}
 use Rattle.access.specs.declared.vector.Vector.{Vector}
-use Rattle.access.specs.declared.vector.Choice.TheVariants.{Given}
-use Rattle.itron.specs.Codes.{Err, e_oacv, e_tmout, e_qovr, e_obj, e_macv, Code, ok, waiting, error}
+use Rattle.std.specs.Prelude.{Some as Given}
+use Rattle.itron.specs.Codes.{Code, ok, waiting, error}
+use Rattle.itron.specs.declared.error.Error.{Error as Err}
+use Rattle.itron.specs.declared.error.Error.TheVariants.{Oacv as e_oacv, Tmout as e_tmout, Qovr as e_qovr, Obj as e_obj, Macv as e_macv}
 use Rattle.model.specs.State as Model
 use Rattle.model.specs.State.{sem_at, queue_at}
 use Rattle.model.specs.Answers.{Answer}

@@ -9,7 +9,9 @@ use lib.IntN.{ℤ}
 use borrow.Author.Tests.{le-leb, lt-leb, ne_eqb}
 use types.Run.{OneOf}
 use denote.Enum.Declared.{tag_of}
-use Rattle.itron.specs.Codes.{Err, e_sys, e_ctx, ok_number, number_of}
+use Rattle.itron.specs.Codes.{ok_number, number_of}
+use Rattle.itron.specs.declared.error.Error.{Error as Err}
+use Rattle.itron.specs.declared.error.Error.TheVariants.{Sys as e_sys, Ctx as e_ctx}
 use Rattle.itron.specs.Limits.{max_level}
 use Rattle.model.specs.declared.svc.ExtendedCall.{ExtendedCall}
 use Rattle.model.specs.declared.svc.ExtendedCall.TheVariants.{Enter, Leave}

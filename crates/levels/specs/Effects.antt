@@ -1,7 +1,8 @@
 -- What a call on the caller's level gives. Definitions only.
 use Rattle.std.specs.Prelude.{ℕ, get_or}
 use Rattle.std.proofs.Math.Option.{Option, none, some}
-use Rattle.itron.specs.Codes.{Err, ok_number, number_of}
+use Rattle.itron.specs.Codes.{ok_number, number_of}
+use Rattle.itron.specs.declared.error.Error.{Error as Err}
 use Rattle.model.specs.ExtendedCalls.{level_check, level_after}
 use Rattle.model.specs.declared.svc.ExtendedCall.{ExtendedCall}
 use Rattle.levels.specs.declared.state.Levels.{Levels}

@@ -14,7 +14,9 @@ use Rattle.access.proofs.Laws.{inside_admitted}
 use Rattle.access.specs.Domains.{running_of}
 use Rattle.access.specs.Patterns.{admitted}
 use Rattle.access.specs.Vectors.{pattern_of}
-use Rattle.itron.specs.Codes.{Err, e_sys, e_ctx, e_id, e_par, e_noexs, e_oacv, Code, ok, error}
+use Rattle.itron.specs.Codes.{Code, ok, error}
+use Rattle.itron.specs.declared.error.Error.{Error as Err}
+use Rattle.itron.specs.declared.error.Error.TheVariants.{Sys as e_sys, Ctx as e_ctx, Id as e_id, Par as e_par, Noexs as e_noexs, Oacv as e_oacv}
 use Rattle.itron.specs.Limits.{max_level}
 use Rattle.model.specs.Lists.{All}
 use Rattle.model.specs.State.{Vector, Waiter, State, sem_at, queue_at, domain_at, level_at, running_at, no}

@@ -8,7 +8,9 @@ use native.Mathlib.Omega.{arith}
 use lib.Dec.{eqb}
 use lib.IntN.{ℤ}
 use lib.ListN.{length}
-use Rattle.itron.specs.Codes.{Err, e_ctx, e_oacv, ok, waiting, error}
+use Rattle.itron.specs.Codes.{ok, waiting, error}
+use Rattle.itron.specs.declared.error.Error.{Error as Err}
+use Rattle.itron.specs.declared.error.Error.TheVariants.{Ctx as e_ctx, Oacv as e_oacv}
 use Rattle.model.specs.Lists.{at, All}
 use Rattle.model.specs.State.{Vector, Place, Waiter, State, set_waits, no}
 use Rattle.model.specs.Answers.{Answer, Effect, Out, out, say, refuse, tells}

@@ -10,7 +10,9 @@ use Rattle.access.proofs.Laws.{kernel_always}
 use Rattle.access.specs.Domains.{running_of}
 use Rattle.access.specs.Patterns.{admitted}
 use Rattle.access.specs.Vectors.{resolved}
-use Rattle.itron.specs.Codes.{Err, e_oacv, error}
+use Rattle.itron.specs.Codes.{error}
+use Rattle.itron.specs.declared.error.Error.{Error as Err}
+use Rattle.itron.specs.declared.error.Error.TheVariants.{Oacv as e_oacv}
 use Rattle.itron.specs.Limits.{max_domains}
 use Rattle.model.specs.Lists.{at, total}
 use Rattle.model.specs.State.{Vector, Sem, Queue, State, zero_vector, no_sem, no_queue, domain_at, running_at, no}

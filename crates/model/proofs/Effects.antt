@@ -10,7 +10,8 @@ use lib.Dec.{eqb, leb, ltb}
 use borrow.Author.Tests.{leb-true, leb-false}
 use lib.IntN.{pos}
 use lib.ListN.{length, drop}
-use Rattle.itron.specs.Codes.{e_iluse, ok, waiting}
+use Rattle.itron.specs.Codes.{ok, waiting}
+use Rattle.itron.specs.declared.error.Error.TheVariants.{Iluse as e_iluse}
 use Rattle.model.specs.Lists.{at, put, cons_if, keep, All}
 use Rattle.model.specs.State.{Vector, TaskEntry, Sem, Queue, on_sem, receiving, sending, Place, Waiter, Fixed, State, no_sem, no_queue, same_place}
 use Rattle.model.specs.Answers.{Answer, out}

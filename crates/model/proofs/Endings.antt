@@ -7,7 +7,9 @@ use mathlib.Core.Option.{Option, none, some}
 use Prim.Native.Nat.{ℕ}
 use native.Mathlib.Omega.{arith}
 use lib.ListN.{length}
-use Rattle.itron.specs.Codes.{Err, e_oacv, Code, ok, waiting, error}
+use Rattle.itron.specs.Codes.{Code, ok, waiting, error}
+use Rattle.itron.specs.declared.error.Error.{Error as Err}
+use Rattle.itron.specs.declared.error.Error.TheVariants.{Oacv as e_oacv}
 use Rattle.model.specs.Lists.{at, put}
 use Rattle.model.specs.State.{TaskEntry, Waiter, Place, same_place}
 use Rattle.model.specs.Answers.{Effect, effect, say}

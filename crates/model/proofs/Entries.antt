@@ -11,8 +11,10 @@ use lib.Dec.{leb}
 use lib.ListN.{length, length-append}
 use lib.IntN.{ℤ, pos, negsuc}
 use Rattle.access.specs.Vectors.{resolved}
-use Rattle.access.specs.declared.vector.Choice.{Choice}
-use Rattle.itron.specs.Codes.{Err, e_ctx, e_id, e_noid, e_rsatr, e_par, e_obj, e_nomem, ok, error}
+use Rattle.access.specs.Vectors.{Choice}
+use Rattle.itron.specs.Codes.{ok, error}
+use Rattle.itron.specs.declared.error.Error.{Error as Err}
+use Rattle.itron.specs.declared.error.Error.TheVariants.{Ctx as e_ctx, Id as e_id, Noid as e_noid, Rsatr as e_rsatr, Par as e_par, Obj as e_obj, Nomem as e_nomem}
 use Rattle.itron.specs.Limits.{max_domains, max_tasks, max_priority, max_semaphores, max_queues, max_regions, max_count, max_capacity, max_words, address_end}
 use Rattle.model.specs.Lists.{at}
 use Rattle.model.specs.State.{TaskEntry, Sem, Queue, Region, State, no_task, no_sem, no_queue, no_region}

@@ -9,7 +9,8 @@ use native.Mathlib.Omega.{arith}
 use lib.IntN.{ℤ, pos}
 use lib.ListN.{length}
 use borrow.Author.Tests.{lt-leb, ne_eqb}
-use Rattle.itron.specs.Codes.{e_ctx, e_sys, ok}
+use Rattle.itron.specs.Codes.{ok}
+use Rattle.itron.specs.declared.error.Error.TheVariants.{Ctx as e_ctx, Sys as e_sys}
 use Rattle.itron.specs.Limits.{max_level}
 use Rattle.model.specs.Lists.{put}
 use Rattle.model.specs.State.{Sem, Queue, Waiter, Fixed, State, level_at, no}

@@ -12,7 +12,9 @@ use lib.Dec.{leb}
 use lib.IntN.{ℤ}
 use lib.ListN.{length, take, drop, get_or, length-drop}
 use lib.Seq.{length-take-le, get_or-take, get_or-drop, ext_get_or}
-use Rattle.itron.specs.Codes.{Err, e_ctx, e_par, e_noexs, ok_number}
+use Rattle.itron.specs.Codes.{ok_number}
+use Rattle.itron.specs.declared.error.Error.{Error as Err}
+use Rattle.itron.specs.declared.error.Error.TheVariants.{Ctx as e_ctx, Par as e_par, Noexs as e_noexs}
 use Rattle.itron.specs.Limits.{address_end}
 use Rattle.model.specs.State.{State, set_levels}
 use Rattle.model.specs.Answers.{refuse_if, result_of}

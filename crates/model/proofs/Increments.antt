@@ -9,7 +9,8 @@ use native.Mathlib.Omega.{arith}
 use lib.Dec.{eqb}
 use lib.IntN.{ℤ}
 use lib.ListN.{length, take}
-use Rattle.itron.specs.Codes.{Err, Code, ok, waiting, error}
+use Rattle.itron.specs.Codes.{Code, ok, waiting, error}
+use Rattle.itron.specs.declared.error.Error.{Error as Err}
 use Rattle.model.specs.Lists.{keep, any_of, gathered}
 use Rattle.model.specs.State.{Vector, on_sem, receiving, sending, Waiter, State, place, queue_at, sem_at, level_at, waiter, no}
 use Rattle.model.specs.Answers.{Info, Released, when_ok}

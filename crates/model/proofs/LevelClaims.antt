@@ -11,7 +11,9 @@ use lib.ListN.{length, length-map}
 use borrow.Author.Tests.{leb-false}
 use Rattle.access.proofs.Laws.{running_inside}
 use Rattle.access.specs.Domains.{running_of}
-use Rattle.itron.specs.Codes.{Err, e_ctx, e_sys, Code, ok, waiting, error}
+use Rattle.itron.specs.Codes.{Code, ok, waiting, error}
+use Rattle.itron.specs.declared.error.Error.{Error as Err}
+use Rattle.itron.specs.declared.error.Error.TheVariants.{Ctx as e_ctx, Sys as e_sys}
 use Rattle.itron.specs.Limits.{max_level}
 use Rattle.model.specs.Lists.{at, put, All, total}
 use Rattle.model.specs.State.{TaskEntry, Fixed, State, no_levels, level_at, no}

@@ -11,7 +11,8 @@ use lib.IntN.{ℤ}
 use borrow.Author.Tests.{leb-false}
 use Rattle.access.specs.Domains.{same_domain}
 use Rattle.access.specs.Vectors.{same_vector}
-use Rattle.itron.specs.Codes.{Err, e_ctx, e_id, e_par, e_obj, e_macv}
+use Rattle.itron.specs.declared.error.Error.{Error as Err}
+use Rattle.itron.specs.declared.error.Error.TheVariants.{Ctx as e_ctx, Id as e_id, Par as e_par, Obj as e_obj, Macv as e_macv}
 use Rattle.model.specs.Answers.{refuse_if}
 use Rattle.model.specs.State.{Region, State, set_fixed, set_regions}
 use Rattle.model.specs.Regions.{end, touches, is_equal, in_chain, allows, holds, from_holder, judge_in, area_ok, judge}

@@ -5,7 +5,9 @@ use mathlib.Core.Option.{none, some}
 use Prim.Native.Nat.{ℕ, ◌^◌}
 use lib.Dec.{eqb}
 use lib.IntN.{ℤ, pos, negsuc, neg_ℤ}
-use Rattle.itron.specs.Codes.{Err, e_sys, e_rsatr, e_par, e_id, e_ctx, e_macv, e_oacv, e_iluse, e_nomem, e_noid, e_obj, e_noexs, e_qovr, e_tmout, Code, ok, waiting, error, number_of}
+use Rattle.itron.specs.Codes.{Code, ok, waiting, error, number_of}
+use Rattle.itron.specs.declared.error.Error.{Error as Err}
+use Rattle.itron.specs.declared.error.Error.TheVariants.{Sys as e_sys, Rsatr as e_rsatr, Par as e_par, Id as e_id, Ctx as e_ctx, Macv as e_macv, Oacv as e_oacv, Iluse as e_iluse, Nomem as e_nomem, Noid as e_noid, Obj as e_obj, Noexs as e_noexs, Qovr as e_qovr, Tmout as e_tmout}
 use Rattle.itron.specs.Limits.{address_end}
 use Rattle.model.specs.declared.Outcome.{Outcome}
 use Rattle.model.specs.declared.Outcome.TheVariants as Outcome

@@ -8,7 +8,7 @@ use native.Mathlib.Omega.{arith}
 use lib.IntN.{ℤ, pos, negsuc}
 use lib.ListN.{length, get_or}
 use lib.Seq.{get_or-set_same, get_or-set_other}
-use Rattle.itron.specs.Codes.{e_id}
+use Rattle.itron.specs.declared.error.Error.TheVariants.{Id as e_id}
 use Rattle.model.specs.declared.Request.TheVariants as Requests
 use Rattle.model.specs.declared.sem.SemaphoreRequest.TheVariants as SemaphoreRequest
 use Rattle.model.specs.declared.dtq.QueueRequest.TheVariants as QueueRequest

@@ -9,7 +9,9 @@ use native.Mathlib.Omega.{arith}
 use lib.Dec.{eqb, ltb}
 use lib.ListN.{length, take, drop, length-map}
 use borrow.Author.Tests.{ltb-true, ltb-false}
-use Rattle.itron.specs.Codes.{Err, e_iluse, e_tmout, Code, ok, waiting, error}
+use Rattle.itron.specs.Codes.{Code, ok, waiting, error}
+use Rattle.itron.specs.declared.error.Error.{Error as Err}
+use Rattle.itron.specs.declared.error.Error.TheVariants.{Iluse as e_iluse, Tmout as e_tmout}
 use Rattle.model.specs.Lists.{All, at, keep, cons_if}
 use Rattle.model.specs.State.{TaskEntry, Queue, Waiter, receiving, sending, place, no_task, no_queue}
 use Rattle.model.specs.Answers.{Answer, Effect, say, tells, when_waiting}

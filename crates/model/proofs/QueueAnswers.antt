@@ -8,7 +8,8 @@ use native.Mathlib.Omega.{arith}
 use lib.Dec.{eqb, ltb}
 use lib.IntN.{ℤ}
 use lib.ListN.{length}
-use Rattle.itron.specs.Codes.{e_iluse, e_tmout, ok, waiting}
+use Rattle.itron.specs.Codes.{ok, waiting}
+use Rattle.itron.specs.declared.error.Error.TheVariants.{Iluse as e_iluse, Tmout as e_tmout}
 use Rattle.model.specs.State.{Vector, Waiter, State, queue_at, no}
 use Rattle.model.specs.Answers.{Answer}
 use Rattle.model.specs.Waits.{Patience, polling, forever, senders, receivers}

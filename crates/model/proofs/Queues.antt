@@ -10,7 +10,9 @@ use lib.ListN.{length, drop, length-append}
 use lib.Dec.{eqb, ltb}
 use borrow.Author.Tests.{ltb-true, ltb-false}
 use Rattle.access.specs.Vectors.{pattern_of}
-use Rattle.itron.specs.Codes.{Err, error, e_oacv, e_iluse, e_tmout, waiting}
+use Rattle.itron.specs.Codes.{error, waiting}
+use Rattle.itron.specs.declared.error.Error.{Error as Err}
+use Rattle.itron.specs.declared.error.Error.TheVariants.{Oacv as e_oacv, Iluse as e_iluse, Tmout as e_tmout}
 pub use Rattle.model.specs.Conditions.{QView, qview, qview_of, QueueOk}
 use Rattle.model.specs.Lists.{All}
 use Rattle.model.specs.State.{Vector, TaskEntry, Queue, Waiter, State, Place, Side, on_sem, receiving, sending, place, waiter, no_queue, zero_vector}

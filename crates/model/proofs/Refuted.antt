@@ -11,7 +11,9 @@ use lib.IntN.{pos, negsuc}
 use lib.ListN.{length, get_or}
 use Rattle.itron.specs.Limits.{min_unit}
 use Rattle.access.specs.Patterns.{admitted}
-use Rattle.itron.specs.Codes.{Err, Code, ok, waiting, error, e_sys, e_oacv, e_qovr, e_tmout}
+use Rattle.itron.specs.Codes.{Code, ok, waiting, error}
+use Rattle.itron.specs.declared.error.Error.{Error as Err}
+use Rattle.itron.specs.declared.error.Error.TheVariants.{Sys as e_sys, Oacv as e_oacv, Qovr as e_qovr, Tmout as e_tmout}
 use Rattle.model.specs.Lists.{at, gathered}
 use Rattle.model.specs.State.{Vector, TaskEntry, Queue, on_sem, receiving, sending, Place, Waiter, State, state_with, set_waits, set_sems, set_queues, set_levels, place, side_number, waiter}
 use Rattle.model.specs.Answers.{Released, say}

@@ -6,7 +6,8 @@ use Prim.Native.Nat.{ℕ, ◌≤◌}
 use native.Mathlib.Omega.{arith}
 use lib.IntN.{pos}
 use lib.ListN.{length}
-use Rattle.itron.specs.Codes.{Err, ok, waiting, error}
+use Rattle.itron.specs.Codes.{ok, waiting, error}
+use Rattle.itron.specs.declared.error.Error.{Error as Err}
 use Rattle.model.specs.declared.Outcome.TheVariants as Outcome
 use Rattle.model.specs.Lists.{All}
 use Rattle.model.specs.State.{Place, Waiter, State}

@@ -10,7 +10,9 @@ use lib.Dec.{eqb, leb, leb→le}
 use lib.IntN.{ℤ}
 use lib.ListN.{length}
 use Rattle.access.specs.Vectors.{pattern_of}
-use Rattle.itron.specs.Codes.{Err, e_ctx, e_id, e_par, e_noexs, e_oacv, Code, ok, waiting, error}
+use Rattle.itron.specs.Codes.{Code, ok, waiting, error}
+use Rattle.itron.specs.declared.error.Error.{Error as Err}
+use Rattle.itron.specs.declared.error.Error.TheVariants.{Ctx as e_ctx, Id as e_id, Par as e_par, Noexs as e_noexs, Oacv as e_oacv}
 use Rattle.model.specs.Lists.{at, All}
 use Rattle.model.specs.State.{Vector, TaskEntry, Waiter, Side, on_sem, receiving, sending, Place, State, set_waits, set_levels, running_at, no}
 use Rattle.model.specs.Answers.{when_ok, when_accepted}

@@ -6,7 +6,8 @@ use Prim.Native.Nat.{ℕ, zero, suc, ◌≤◌, ◌<◌}
 use native.Mathlib.Omega.{arith}
 use lib.Dec.{leb}
 use lib.IntN.{ℤ}
-use Rattle.itron.specs.Codes.{e_qovr, e_tmout, ok, waiting}
+use Rattle.itron.specs.Codes.{ok, waiting}
+use Rattle.itron.specs.declared.error.Error.TheVariants.{Qovr as e_qovr, Tmout as e_tmout}
 use Rattle.model.specs.State.{Vector, Waiter, State, place, on_sem, sem_at, no}
 use Rattle.model.specs.Answers.{Answer}
 use Rattle.model.specs.Waits.{Patience, polling, forever, wait_queue}

@@ -9,7 +9,9 @@ use native.Mathlib.Omega.{arith}
 use lib.Dec.{leb}
 use lib.ListN.{length}
 use Rattle.access.specs.Vectors.{pattern_of}
-use Rattle.itron.specs.Codes.{Err, error, e_qovr, e_tmout, waiting}
+use Rattle.itron.specs.Codes.{error, waiting}
+use Rattle.itron.specs.declared.error.Error.{Error as Err}
+use Rattle.itron.specs.declared.error.Error.TheVariants.{Qovr as e_qovr, Tmout as e_tmout}
 use Rattle.model.specs.Lists.{All}
 use Rattle.model.specs.State.{Vector, TaskEntry, Sem, Waiter, State, Place, Side, receiving, sending, on_sem, place, waiter, no_sem, zero_vector}
 use Rattle.model.specs.Answers.{Effect, effect, say, when_ok}

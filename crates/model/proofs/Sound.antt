@@ -3,7 +3,7 @@ use mathlib.Core.Path.{◌≡◌, sym, ap, ◌∙◌, subst}
 use mathlib.Core.Bool.{false}
 use mathlib.Core.List.{List, [], ◌∷◌}
 use Prim.Native.Nat.{ℕ, ◌≤◌}
-use Rattle.itron.specs.Codes.{e_ctx}
+use Rattle.itron.specs.declared.error.Error.TheVariants.{Ctx as e_ctx}
 use Rattle.model.specs.Lists.{All}
 use Rattle.model.specs.State.{Side, on_sem, receiving, sending, Waiter, Fixed, State, no_levels, set_fixed, no}
 use Rattle.model.specs.Answers.{Out, refuse}

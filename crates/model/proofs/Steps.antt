@@ -3,7 +3,8 @@ use mathlib.Core.Path.{◌≡◌, refl, sym, ap, ◌∙◌}
 use mathlib.Core.Bool.{Bool, true, false}
 use mathlib.Core.List.{List, [], ◌∷◌, ◌++◌, append-nil}
 use Prim.Native.Nat.{ℕ}
-use Rattle.itron.specs.Codes.{Err, Code, ok, waiting, error}
+use Rattle.itron.specs.Codes.{Code, ok, waiting, error}
+use Rattle.itron.specs.declared.error.Error.{Error as Err}
 use Rattle.model.specs.State.{Waiter, State}
 use Rattle.model.specs.Answers.{no_info, Out, when_waiting}
 use Rattle.model.specs.Waits.{is_other}

@@ -10,7 +10,8 @@ use lib.ListN.{length-append}
 use lib.Dec.{leb}
 use lib.IntN.{ℤ, pos, negsuc}
 use borrow.Author.Tests.{leb-true}
-use Rattle.itron.specs.Codes.{Err, ok, error}
+use Rattle.itron.specs.Codes.{ok, error}
+use Rattle.itron.specs.declared.error.Error.{Error as Err}
 use Rattle.model.specs.Answers.{refuse_if}
 use Rattle.model.specs.Conditions.{BufferFits, Bounded, Ascending, Whole, TaskEntryFits, SemEntryFits, QueueEntryFits, RegionEntryFits, Spent, NoWords, QueueOk, qview_of, Sound}
 use Rattle.model.specs.Lists.{at}

@@ -7,7 +7,7 @@ use Prim.Native.Nat.{ℕ, ◌≤◌, ◌<◌}
 use native.Mathlib.Omega.{arith}
 use lib.Dec.{eqb, ltb, leb}
 use borrow.Author.Tests.{ltb-true, ltb-false, leb-true, leb-false}
-use Rattle.itron.specs.Codes.{Err}
+use Rattle.itron.specs.declared.error.Error.{Error as Err}
 use Rattle.model.specs.Answers.{refuse_if}
 use Rattle.model.proofs.Lists.{eq_of, ne_of, no_both, and_left, and_right, both}
 

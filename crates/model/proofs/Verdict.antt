@@ -9,7 +9,7 @@ use native.Mathlib.Omega.{arith}
 use native.Mathlib.Nat.{div-one}
 use lib.IntN.{ℤ, pos, negsuc}
 use Rattle.access.specs.Patterns.{admitted, bit_at}
-use Rattle.itron.specs.Codes.{e_ctx, e_id, e_par, e_noexs, e_obj, e_macv}
+use Rattle.itron.specs.declared.error.Error.TheVariants.{Ctx as e_ctx, Id as e_id, Par as e_par, Noexs as e_noexs, Obj as e_obj, Macv as e_macv}
 use Rattle.itron.specs.Limits.{address_end}
 use Rattle.model.specs.Answers.{refuse_if}
 use Rattle.model.specs.Lists.{All}

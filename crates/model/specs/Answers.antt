@@ -1,7 +1,8 @@
 -- What an operation answers (document 01, "Calls on an open gateway", "Codes a desk clerk sees"). Definitions only.
 use Rattle.std.specs.Prelude.{Bool, true, false, List, [], ◌∷◌, ℕ, ℤ}
 use Rattle.std.proofs.Math.Option.{Option, none, some}
-use Rattle.itron.specs.Codes.{Err, Code, ok, waiting, error, ok_number, number_of}
+use Rattle.itron.specs.Codes.{Code, ok, waiting, error, ok_number, number_of}
+use Rattle.itron.specs.declared.error.Error.{Error as Err}
 pub use Rattle.model.specs.declared.Released.{Released}
 pub use Rattle.model.specs.declared.Info.{Info}
 pub use Rattle.model.specs.declared.Reply.{Reply}

@@ -1,7 +1,7 @@
 -- Calls on an open gateway (document 01): which calls there are, and one call. Definitions only.
 use Rattle.std.proofs.Math.Option.{Option, none, some}
 use Rattle.std.specs.Prelude.{ℕ, ℤ}
-use Rattle.itron.specs.Codes.{Err}
+use Rattle.itron.specs.declared.error.Error.{Error as Err}
 use Rattle.model.specs.declared.Request.{Request}
 use Rattle.model.specs.declared.Request.TheVariants as Requests
 use Rattle.model.specs.State.{State, no}

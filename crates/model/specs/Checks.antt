@@ -1,19 +1,23 @@
--- What the checks of a call find, in the program's words. Definitions only.
-use Rattle.std.specs.Prelude.{ℕ, cond, List, leb, length}
+-- What checks find, in the program's words. Definitions only.
+use Rattle.std.specs.Prelude.{ℕ, cond, List, leb, length, Result, Ok, Err as Refused}
 use Rattle.std.proofs.Math.Option.{Option, none, some}
-use Rattle.itron.specs.Codes.{Err, number_of}
-use Rattle.model.specs.declared.check.Check.{Check}
-use Rattle.model.specs.declared.check.Check.TheVariants.{Refused, Admitted}
+use Rattle.itron.specs.declared.error.Error.{Error as Err}
+use Rattle.itron.specs.declared.error.Error.TheVariants.{Id as e_id, Noexs as e_noexs}
+use Rattle.model.specs.declared.check.Admitted.{Admitted}
 use Rattle.model.specs.declared.check.Target.{Target}
-use Rattle.model.specs.declared.check.Target.TheVariants.{OutOfRange, Missing, At}
 use Rattle.model.specs.Lists.{index, at}
 use Rattle.model.specs.Rooms.{Room, in_range}
 
--- which of a kind's objects, with these records, a number names
-abbrev pub target_in : {C R : Type 0} → Room C R → List R → ℕ → Target
-target_in r xs n = cond (in_range r.most n) (cond (leb n (length xs)) (At (index n) (r.vector (at r.nothing xs n))) Missing) OutOfRange
+-- the first refusal, or nothing
+abbrev pub passed : Option Err → Result Unit Err
+passed none = Ok tt
+passed (some e) = Refused e
 
--- a refusal's code, or the indexes of the task t and of the object n
-abbrev pub checked : Option Err → ℕ → ℕ → Check
-checked (some e) t n = Refused (number_of e)
-checked none t n = Admitted (index t) (index n)
+-- which of a kind's objects, with these records, a number names
+abbrev pub target_in : {C R : Type 0} → Room C R → List R → ℕ → Result Target Err
+target_in r xs n = cond (in_range r.most n) (cond (leb n (length xs)) (Ok (record { object = index n; vector = r.vector (at r.nothing xs n) })) (Refused e_noexs)) (Refused e_id)
+
+-- the first refusal, or the indexes of the task t and of the object n
+abbrev pub checked : Option Err → ℕ → ℕ → Result Admitted Err
+checked (some e) t n = Refused e
+checked none t n = Ok (record { task = index t; object = index n })

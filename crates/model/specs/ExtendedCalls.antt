@@ -1,7 +1,8 @@
 -- Extended service calls: a task enters a checked library routine, which runs as the kernel domain, and leaves it (request T-03). Definitions only.
 use Rattle.std.specs.Prelude.{false, not, ◌&&◌, [], ℕ, suc, ◌-◌, eqb, leb}
 use Rattle.std.proofs.Math.Option.{Option, none}
-use Rattle.itron.specs.Codes.{Err, e_ctx, e_sys}
+use Rattle.itron.specs.declared.error.Error.{Error as Err}
+use Rattle.itron.specs.declared.error.Error.TheVariants.{Ctx as e_ctx, Sys as e_sys}
 use Rattle.itron.specs.Limits.{max_level}
 pub use Rattle.model.specs.declared.svc.ExtendedCall.{ExtendedCall}
 pub use Rattle.model.specs.declared.svc.ExtendedCall.TheVariants.{Enter, Leave}

@@ -1,7 +1,8 @@
 -- Handing out the bytes of an area out of two lent images (document 02, T-13). Definitions only.
 use Rattle.std.specs.Prelude.{Bool, true, false, cond, not, ◌&&◌, ◌||◌, List, [], ℕ, ◌+◌, ◌-◌, eqb, leb, ℤ, length, take, drop}
 use Rattle.std.proofs.Math.Option.{Option, none, some}
-use Rattle.itron.specs.Codes.{Err, e_ctx, e_par, e_noexs}
+use Rattle.itron.specs.declared.error.Error.{Error as Err}
+use Rattle.itron.specs.declared.error.Error.TheVariants.{Ctx as e_ctx, Par as e_par, Noexs as e_noexs}
 use Rattle.itron.specs.Limits.{address_end}
 use Rattle.model.specs.State.{State}
 use Rattle.model.specs.Answers.{refuse_if}

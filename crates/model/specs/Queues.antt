@@ -2,10 +2,11 @@
 use Rattle.std.specs.Prelude.{Bool, true, false, List, [], ◌∷◌, ◌++◌, ℕ, ◌+◌, eqb, leb, ltb, ℤ, length, drop}
 use Rattle.std.proofs.Math.Option.{Option, none, some}
 use Rattle.access.specs.Vectors.{resolved}
-use Rattle.access.specs.declared.vector.Choice.{Choice}
+use Rattle.access.specs.Vectors.{Choice}
 use Rattle.access.specs.declared.vector.Operation.{Operation}
 use Rattle.access.specs.declared.vector.Operation.TheVariants.{Normal1, Normal2}
-use Rattle.itron.specs.Codes.{Code, e_iluse}
+use Rattle.itron.specs.Codes.{Code}
+use Rattle.itron.specs.declared.error.Error.TheVariants.{Iluse as e_iluse}
 use Rattle.itron.specs.Limits.{max_capacity, max_queues, max_words}
 pub use Rattle.model.specs.declared.dtq.QueueCall.{QueueCall}
 pub use Rattle.model.specs.declared.dtq.QueueCall.TheVariants.{Send as send, Receive as receive, ForcedSend as forced_send}

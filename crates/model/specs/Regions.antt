@@ -4,8 +4,9 @@ use Rattle.std.proofs.Math.Option.{Option, none, some}
 use Rattle.access.specs.Domains.{same_domain}
 use Rattle.access.specs.Patterns.{admitted, bit_at}
 use Rattle.access.specs.Vectors.{same_vector, resolved}
-use Rattle.access.specs.declared.vector.Choice.{Choice}
-use Rattle.itron.specs.Codes.{Err, e_par, e_noexs, e_obj, e_macv}
+use Rattle.access.specs.Vectors.{Choice}
+use Rattle.itron.specs.declared.error.Error.{Error as Err}
+use Rattle.itron.specs.declared.error.Error.TheVariants.{Par as e_par, Noexs as e_noexs, Obj as e_obj, Macv as e_macv}
 use Rattle.itron.specs.Limits.{address_end}
 use Rattle.model.specs.Lists.{any_of, beginnings}
 use Rattle.model.specs.State.{Region}

@@ -4,7 +4,9 @@ use Rattle.std.proofs.Math.Option.{Option, none}
 use Rattle.access.specs.Patterns.{admitted}
 use Rattle.access.specs.Vectors.{pattern_of}
 use Rattle.access.specs.declared.vector.Operation.{Operation}
-use Rattle.itron.specs.Codes.{Err, Code, e_ctx, e_id, e_par, e_noexs, e_oacv}
+use Rattle.itron.specs.Codes.{Code}
+use Rattle.itron.specs.declared.error.Error.{Error as Err}
+use Rattle.itron.specs.declared.error.Error.TheVariants.{Ctx as e_ctx, Id as e_id, Par as e_par, Noexs as e_noexs, Oacv as e_oacv}
 use Rattle.model.specs.Lists.{at, put}
 use Rattle.model.specs.State.{Vector, TaskEntry, Place, Waiter, State, running_at, no}
 use Rattle.model.specs.Answers.{Info, Effect, effect, Out, out, tells, refuse_if}

@@ -2,10 +2,11 @@
 use Rattle.std.specs.Prelude.{Bool, true, false, ◌&&◌, List, [], ◌∷◌, ℕ, zero, suc, leb, ℤ}
 use Rattle.std.proofs.Math.Option.{Option, none, some}
 use Rattle.access.specs.Vectors.{resolved}
-use Rattle.access.specs.declared.vector.Choice.{Choice}
+use Rattle.access.specs.Vectors.{Choice}
 use Rattle.access.specs.declared.vector.Operation.{Operation}
 use Rattle.access.specs.declared.vector.Operation.TheVariants.{Normal1, Normal2}
-use Rattle.itron.specs.Codes.{Code, e_qovr}
+use Rattle.itron.specs.Codes.{Code}
+use Rattle.itron.specs.declared.error.Error.TheVariants.{Qovr as e_qovr}
 use Rattle.itron.specs.Limits.{max_count, max_semaphores}
 pub use Rattle.model.specs.declared.sem.SemaphoreCall.{SemaphoreCall}
 pub use Rattle.model.specs.declared.sem.SemaphoreCall.TheVariants.{Signal as signal, Acquire as acquire}

@@ -1,8 +1,9 @@
 -- Building the table: fresh, entries, closing (document 01, "Building the table"). Definitions only.
 use Rattle.std.specs.Prelude.{Bool, true, false, not, ◌&&◌, [], ◌∷◌, ◌++◌, ℕ, zero, suc, length, eqb, ltb, leb, ℤ, pos, negsuc}
 use Rattle.std.proofs.Math.Option.{Option, none, some}
-use Rattle.access.specs.declared.vector.Choice.{Choice}
-use Rattle.itron.specs.Codes.{Err, e_ctx, e_id, e_noid, e_rsatr, e_par, e_obj, e_nomem}
+use Rattle.access.specs.Vectors.{Choice}
+use Rattle.itron.specs.declared.error.Error.{Error as Err}
+use Rattle.itron.specs.declared.error.Error.TheVariants.{Ctx as e_ctx, Id as e_id, Noid as e_noid, Rsatr as e_rsatr, Par as e_par, Obj as e_obj, Nomem as e_nomem}
 use Rattle.itron.specs.Limits.{max_domains, max_tasks, max_priority, max_semaphores, max_queues, max_regions, min_unit}
 use Rattle.model.specs.State.{TaskEntry, State, state_with, set_fixed, set_sems, set_queues, set_levels, set_closed, set_tasks, set_regions}
 use Rattle.model.specs.Answers.{Out, refuse, done, refuse_if}

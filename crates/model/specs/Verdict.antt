@@ -1,7 +1,8 @@
 -- The memory verdict (document 01). Definitions only.
 use Rattle.std.specs.Prelude.{not, ℕ, ℤ}
 use Rattle.std.proofs.Math.Option.{Option}
-use Rattle.itron.specs.Codes.{Err, e_ctx, e_id}
+use Rattle.itron.specs.declared.error.Error.{Error as Err}
+use Rattle.itron.specs.declared.error.Error.TheVariants.{Ctx as e_ctx, Id as e_id}
 use Rattle.model.specs.State.{State}
 use Rattle.model.specs.Answers.{refuse_if}
 use Rattle.model.specs.Table.{owns_task}

@@ -3,7 +3,9 @@ use Rattle.std.specs.Prelude.{Bool, true, false, not, ◌&&◌, ◌||◌, List, 
 use Rattle.model.specs.Lists.{at, keep, arrange}
 use Rattle.model.specs.State.{TaskEntry, Place, Waiter, State, Side, on_sem, receiving, sending, same_place, place, no_task, sem_at, queue_at}
 use Rattle.model.specs.Answers.{Released, Effect, effect, say}
-use Rattle.itron.specs.Codes.{Err, e_tmout, ok, waiting, error}
+use Rattle.itron.specs.Codes.{ok, waiting, error}
+use Rattle.itron.specs.declared.error.Error.{Error as Err}
+use Rattle.itron.specs.declared.error.Error.TheVariants.{Tmout as e_tmout}
 pub use Rattle.model.specs.declared.Patience.{Patience}
 pub use Rattle.model.specs.declared.Patience.TheVariants.{Polling as polling, Forever as forever}
 

@@ -1,18 +1,16 @@
-// What the checks of a call find.
+// What the checks of a call find, where none of them refuses.
 use access::vector::Vector;
 
-// What the checks of a call found: a refusal's code, or the indexes of the calling task and of the object.
+// The object that a number names, by its index, with the vector that calls on it are judged by.
 #[derive(Clone, Copy)]
-pub enum Check {
-    Refused(i32),
-    Admitted(usize, usize),
+pub struct Target {
+    pub object: usize,
+    pub vector: Vector,
 }
 
-// Which object a number names: none of its kind's numbers, none that is registered, or the object's index with the vector that
-// calls on it are judged by.
+// The indexes of the calling task and of the object.
 #[derive(Clone, Copy)]
-pub enum Target {
-    OutOfRange,
-    Missing,
-    At(usize, Vector),
+pub struct Admitted {
+    pub task: usize,
+    pub object: usize,
 }

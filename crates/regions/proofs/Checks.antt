@@ -9,7 +9,7 @@ use lib.Dec.{leb}
 use lib.IntN.{ℤ}
 use lib.ListN.{length, get_or, drop, get_or-eq_default}
 use lib.Seq.{drop-cons}
-use Rattle.itron.specs.Codes.{e_rsatr, e_par, e_obj, e_macv}
+use Rattle.itron.specs.declared.error.Error.TheVariants.{Rsatr as e_rsatr, Par as e_par, Obj as e_obj, Macv as e_macv}
 use Rattle.itron.specs.Limits.{address_end}
 use Rattle.model.specs.Lists.{at}
 use Rattle.model.specs.State.{Region, no_region}

@@ -1,7 +1,8 @@
 -- A region's entry (document 01, "Building the table", checks 4 to 6). Definitions only.
 use Rattle.std.specs.Prelude.{ℕ, not, List}
 use Rattle.std.proofs.Math.Option.{Option, none}
-use Rattle.itron.specs.Codes.{Err, e_rsatr, e_par, e_obj}
+use Rattle.itron.specs.declared.error.Error.{Error as Err}
+use Rattle.itron.specs.declared.error.Error.TheVariants.{Rsatr as e_rsatr, Par as e_par, Obj as e_obj}
 use Rattle.model.specs.State.{Region}
 use Rattle.model.specs.Answers.{refuse_if}
 use Rattle.model.specs.Regions.{attribute_ok, numbers_ok, place_ok}

@@ -6,7 +6,7 @@ ghost use Rattle.model.specs.Regions.{attribute_ok, is_area, last_end};
 ghost use Rattle.regions.specs.View.{regions_of};
 ghost use Rattle.regions.specs.Form.{regions_as};
 ghost use Rattle.regions.specs.Held.{Held};
-ghost use Rattle.access.specs.declared.vector.Choice.TheVariants.{Given};
+ghost use Rattle.std.specs.Prelude.{Some as Given};
 ghost use Rattle.model.specs.Regions.{new_region};
 ghost use Rattle.regions.specs.Entries.{entry_check};
 

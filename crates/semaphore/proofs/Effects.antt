@@ -9,7 +9,8 @@ use lib.Dec.{leb}
 use types.Run.{OneOf}
 use denote.Enum.Declared.{tag_of}
 use borrow.Author.Tests.{le-leb, lt-leb}
-use Rattle.itron.specs.Codes.{e_qovr, number_of}
+use Rattle.itron.specs.Codes.{number_of}
+use Rattle.itron.specs.declared.error.Error.TheVariants.{Qovr as e_qovr}
 use Rattle.model.specs.Lists.{put}
 use Rattle.model.specs.State.{TaskEntry, Waiter, place}
 use Rattle.model.specs.Waits.{by_priority, or_waits}

@@ -2,7 +2,7 @@
 use lib.IntN.{ℤ}
 use mathlib.Core.Bool.{Bool, not, ◌&&◌}
 use mathlib.Core.Option.{none}
-use Rattle.itron.specs.Codes.{e_rsatr, e_par}
+use Rattle.itron.specs.declared.error.Error.TheVariants.{Rsatr as e_rsatr, Par as e_par}
 use Rattle.model.specs.Answers.{result_of, refuse_if}
 
 -- the result by the outcomes of the four tests

@@ -5,7 +5,8 @@ use mathlib.Core.Path.{◌≡◌, refl, ap, ◌∙◌}
 use mathlib.Core.List.{[], ◌∷◌}
 use types.Run.{OneOf}
 use denote.Enum.Declared.{tag_of}
-use Rattle.itron.specs.Codes.{e_tmout, waiting, error}
+use Rattle.itron.specs.Codes.{waiting, error}
+use Rattle.itron.specs.declared.error.Error.TheVariants.{Tmout as e_tmout}
 use Rattle.model.specs.State.{Waiter}
 use Rattle.model.specs.Answers.{say, reply_of}
 use Rattle.model.specs.Waits.{join, or_waits}

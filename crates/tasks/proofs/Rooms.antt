@@ -3,7 +3,8 @@ use Prim.Native.Nat.{ℕ}
 use mathlib.Core.Path.{◌≡◌, refl, sym, ◌∙◌}
 use mathlib.Core.Bool.{Bool}
 use mathlib.Core.List.{List, [], ◌∷◌}
-use Rattle.itron.specs.Codes.{Err, ok, ok_number, number_of}
+use Rattle.itron.specs.Codes.{ok, ok_number, number_of}
+use Rattle.itron.specs.declared.error.Error.{Error as Err}
 use Rattle.model.specs.State.{TaskEntry, Waiter, Place}
 use Rattle.model.specs.Answers.{Effect, effect, no_info, say, tells, plain, reply_of}
 use Rattle.model.specs.Waits.{leave, refusal, wakes, or_waits, gives}

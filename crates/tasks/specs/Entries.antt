@@ -1,7 +1,8 @@
 -- The checks of a task's entry that are its own (document 01, "Building the table"; request T-10). Definitions only.
 use Rattle.std.specs.Prelude.{ℕ, not}
 use Rattle.std.proofs.Math.Option.{Option, none}
-use Rattle.itron.specs.Codes.{Err, e_par}
+use Rattle.itron.specs.declared.error.Error.{Error as Err}
+use Rattle.itron.specs.declared.error.Error.TheVariants.{Par as e_par}
 use Rattle.model.specs.Answers.{refuse_if}
 use Rattle.model.specs.Table.{priority_ok}
 

@@ -15,7 +15,8 @@ use borrow.Author.Tests.{eq-eqb}
 use Rattle.itron.specs.Limits.{max_domains}
 use Rattle.access.specs.Domains.{ordinal_of}
 use Rattle.access.specs.Patterns.{admitted}
-use Rattle.access.proofs.Ordinals.{ordinal_le}
+use Rattle.std.specs.Prelude.{unwrap_or}
+use Rattle.access.proofs.Ordinals.{ordinal_le, numbered_or_0}
 use Rattle.access.proofs.Patterns.{admitted_kernel, admitted_nobody, admitted_user}
 use Rattle.access.proofs.pattern.admits.Goals as goal
 
@@ -27,8 +28,8 @@ moved_up p z (suc j) k u =
     (rw (sub-one (suc j)) at (admitted_user p z (suc j) u (λ e. omega arith)))
 
 -- what `ordinal` gives, of the domain itself (a signed argument arrives as the machine reads it back)
-user : (c : goal.After-ordinal) → c.ordinal.result ≡ ordinal_of c.args.domain max_domains
-user c = rw (to_z-of_z c.ranges.domain) at c.ordinal.ensures
+user : (c : goal.After-unwrap_or) → c.unwrap_or.result ≡ ordinal_of c.args.domain max_domains
+user c = c.unwrap_or.ensures ∙ ap (λ o. unwrap_or o 0) (rw (to_z-of_z c.ranges.domain) at c.ordinal.ensures) ∙ numbered_or_0 (ordinal_of c.args.domain max_domains)
 
 pub overflow_shr-result : goal.overflow_shr-result
 overflow_shr-result c = omega (arith, user c, ordinal_le c.args.domain max_domains)
@@ -40,5 +41,5 @@ returns-then-domain-eq-KERNEL_DOMAIN c =
 -- in 64 bits no bit of the pattern is lost
 pub returns-else-domain-eq-KERNEL_DOMAIN : goal.returns-else-domain-eq-KERNEL_DOMAIN
 returns-else-domain-eq-KERNEL_DOMAIN c =
-    ap (λ (x : ℕ). eqb (bit_and (x / 2 ^ c.ordinal.result) 1) 1) (shl_exact (bits w32) 1 (bits w64) c.ranges.pattern.fits (omega arith))
+    ap (λ (x : ℕ). eqb (bit_and (x / 2 ^ c.unwrap_or.result) 1) 1) (shl_exact (bits w32) 1 (bits w64) c.ranges.pattern.fits (omega arith))
     ∙ moved_up _ _ _ (λ e. c.if-domain-eq-KERNEL_DOMAIN.false (ap (of_z w32) e)) (user c)

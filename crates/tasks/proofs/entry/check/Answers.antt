@@ -4,7 +4,7 @@ use mathlib.Core.Bool.{not, ◌&&◌}
 use mathlib.Core.Option.{none}
 use lib.Dec.{leb}
 use borrow.Author.Tests.{lt-leb, le-leb}
-use Rattle.itron.specs.Codes.{e_par}
+use Rattle.itron.specs.declared.error.Error.TheVariants.{Par as e_par}
 use Rattle.itron.specs.Limits.{max_priority}
 use Rattle.model.specs.Answers.{result_of, refuse_if}
 use Rattle.tasks.proofs.entry.check.Goals as goal

@@ -7,7 +7,8 @@ use mir.Val.{to_z, of_z}
 use mir.Facts.{to_z-of_z}
 use Rattle.access.specs.Patterns.{admitted}
 use Rattle.access.specs.Vectors.{pattern_of}
-use Rattle.itron.specs.Codes.{e_oacv, number_of}
+use Rattle.itron.specs.Codes.{number_of}
+use Rattle.itron.specs.declared.error.Error.TheVariants.{Oacv as e_oacv}
 use Rattle.model.specs.State.{no}
 use Rattle.model.specs.declared.check.Check.TheVariants.{Refused, Admitted}
 use Rattle.tasks.specs.declared.wait.Caller.{Caller}

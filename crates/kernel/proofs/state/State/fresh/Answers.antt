@@ -6,7 +6,8 @@ use mir.Syntax.{w32}
 use mir.Val.{to_z, of_z}
 use mir.Facts.{to_z-of_z}
 use borrow.Author.Tests.{eqb-true, eqb-false}
-use Rattle.itron.specs.Codes.{e_par, ok_number, number_of}
+use Rattle.itron.specs.Codes.{ok_number, number_of}
+use Rattle.itron.specs.declared.error.Error.TheVariants.{Par as e_par}
 use Rattle.model.specs.Table.{empty_state}
 use Rattle.model.specs.Units.{unit_ok}
 use Rattle.kernel.specs.Form.{state_of}

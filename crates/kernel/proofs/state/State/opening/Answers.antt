@@ -3,7 +3,7 @@ use mathlib.Core.Path.{sym}
 use mathlib.Core.Bool.{not}
 use lib.Dec.{ltb}
 use borrow.Author.Tests.{le-ltb, lt-ltb}
-use Rattle.itron.specs.Codes.{e_ctx, e_noid, e_id}
+use Rattle.itron.specs.declared.error.Error.TheVariants.{Ctx as e_ctx, Noid as e_noid, Id as e_id}
 use mathlib.Core.Option.{none}
 use Rattle.model.specs.Answers.{result_of, refuse_if}
 use Rattle.kernel.proofs.state.State.opening.Goals as goal

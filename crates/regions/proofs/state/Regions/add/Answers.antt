@@ -1,7 +1,7 @@
 -- `Regions::add` meets its contract: the region goes into the first free cell of each array. Assumes nothing.
 use native.Mathlib.Omega.{arith}
 use mir.Facts.{to_z-of_z}
-use Rattle.access.specs.declared.vector.Choice.TheVariants.{Given}
+use Rattle.std.specs.Prelude.{Some as Given}
 use Rattle.model.specs.Regions.{new_region}
 use Rattle.regions.proofs.Cells.{count_of, enter_link}
 use Rattle.regions.proofs.state.Regions.add.Goals as goal
