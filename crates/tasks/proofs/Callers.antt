@@ -17,7 +17,8 @@ use Rattle.model.proofs.Places.{nth}
 use Rattle.model.proofs.Ordinals.{outside, within}
 use Rattle.tasks.specs.declared.task.Task.{Task}
 use Rattle.tasks.specs.declared.state.Tasks.{Tasks}
-use Rattle.tasks.specs.declared.wait.Caller.TheVariants as Caller
+use Rattle.std.specs.Prelude.{Option, Some, None}
+use Rattle.tasks.specs.declared.wait.Caller.{Caller}
 use Rattle.tasks.specs.View.{no_task, entries_of, waits_of}
 use Rattle.tasks.specs.Form.{task_as, wait_for}
 use Rattle.tasks.specs.Held.{Held, is_ready}
@@ -27,7 +28,7 @@ use Rattle.tasks.proofs.Back.{count_seen, entry_seen}
 
 -- ---- who calls
 module _ {t : Tasks} (h : Held t) (z : ℤ) where
-  pub caller_none : ordinal_of z t.count ≡ 0 → Caller.Nobody ≡ caller_of (entries_of t) (waits_of t) (no z)
+  pub caller_none : ordinal_of z t.count ≡ 0 → None ≡ caller_of (entries_of t) (waits_of t) (no z)
   caller_none e =
       let o : is_task (entries_of t) (no z) ≡ false = ap (λ (n : ℕ). not (eqb (no z) 0) && leb (no z) n) (sym (count_seen h)) ∙ outside z t.count e in
       rw o
@@ -44,10 +45,10 @@ module _ {t : Tasks} (h : Held t) (z : ℤ) where
         ap (λ (m : ℕ). absent m (waits_of t)) (within z t.count k e n).same
         ∙ sym (ap (λ (x : Task). is_ready x.wait) at_row ∙ ready_absent (suc (k - 1)) (waits_of t))
 
-    pub caller_busy : is_ready (get_or t.entries (k - 1) no_task).wait ≡ false → Caller.Nobody ≡ caller_of (entries_of t) (waits_of t) (no z)
+    pub caller_busy : is_ready (get_or t.entries (k - 1) no_task).wait ≡ false → None ≡ caller_of (entries_of t) (waits_of t) (no z)
     caller_busy b = rw (is_task_lem, ready_by, b)
 
-    pub caller_ready : is_ready (get_or t.entries (k - 1) no_task).wait ≡ true → Caller.Ready (k - 1) (get_or t.entries (k - 1) no_task).domain ≡ caller_of (entries_of t) (waits_of t) (no z)
+    pub caller_ready : is_ready (get_or t.entries (k - 1) no_task).wait ≡ true → ◌≡◌ {A = Option Caller} (Some (record { task = k - 1; domain = (get_or t.entries (k - 1) no_task).domain })) (caller_of (entries_of t) (waits_of t) (no z))
     caller_ready b = let d = ap (λ (x : Task). x.domain) at_row in rw (is_task_lem, ready_by, b, (within z t.count k e n).same, d)
 
 -- ---- the task with a number

@@ -6,8 +6,6 @@ use mathlib.Core.Logic.{◌≢◌}
 use mathlib.Core.Bool.{Bool, true}
 use mathlib.Core.List.{List, [], ◌∷◌, map}
 use lib.ListN.{length, get_or, take}
-use types.Run.{OneOf}
-use denote.Enum.Declared.{tag_of}
 use Rattle.model.specs.Lists.{index, at, All}
 use Rattle.model.specs.State.{Waiter, Place, no_task as no_entry}
 use Rattle.model.specs.Waits.{stands_at, is_other, waiters_in, standing, first_task, leave}
@@ -18,22 +16,23 @@ use Rattle.model.proofs.Order.{standing_all, standing_leaves}
 use Rattle.tasks.specs.declared.task.Task.{Task}
 use Rattle.tasks.specs.declared.state.Tasks.{Tasks}
 use Rattle.tasks.specs.declared.wait.First.{First}
-use Rattle.tasks.specs.declared.wait.First.TheVariants.{Nobody, Waiter as FirstIs}
+use Rattle.std.specs.Prelude.{Option, Some, None, unwrap_or}
 use Rattle.tasks.specs.View.{no_task, waiter_of, waiter_at, entries_of, waits_of}
 use Rattle.tasks.specs.Form.{tasks_as}
 use Rattle.tasks.specs.Held.{Held}
 use Rattle.tasks.specs.Ends.{first_of, task_in}
-use Rattle.tasks.specs.contracts.wait.First.{the_type as first_type}
 use Rattle.tasks.proofs.Waits.{number_back}
 use Rattle.tasks.proofs.Back.{back_entries, back_waits, held_as, priority_seen}
 use Rattle.tasks.proofs.Leads.{map_arrange, first_by}
 use Rattle.tasks.proofs.Places.{word_any, task_any}
 
 -- ---- from what was found
-pub no_first : (l : List Waiter) (r : First) → r ≡ first_of l → OneOf (0 ∷ []) (tag_of first_type r) → l ≡ []
-no_first [] r e t = refl
-no_first (x ∷ l) Nobody e t = absurd (let z : ◌≡◌ {A = ℕ} 0 1 = cc in omega arith)
-no_first (x ∷ l) (FirstIs k w) e t = absurd (omega arith)
+some_is : {x : First} (y : First) → Some x ≡ Some y → x ≡ y
+some_is y e = ap (λ (o : Option First). unwrap_or o y) e
+
+pub no_first : (l : List Waiter) → first_of l ≡ None → l ≡ []
+no_first [] e = refl
+no_first (x ∷ l) e = absurd (let z : ◌≡◌ {A = ℕ} 0 1 = cc in omega arith)
 
 -- the tasks that stand at a place, by priority or as they came
 abbrev pub queue_at : Tasks → Bool → Place → List Waiter
@@ -55,16 +54,17 @@ pub record Waits (t : Tasks) (b : Bool) (p : Place) (i w : ℕ) : Type 0 where
   pub word : entry.word ≡ w
   pub low : i < length (entries_of t)
 
-pub waits : {t : Tasks} → Held t → (b : Bool) (p : Place) (i w : ℕ) → first_of (standing b (entries_of t) (waiters_in (waits_of t) p)) ≡ FirstIs i w → Waits t b p i w
+pub waits : {t : Tasks} → Held t → (b : Bool) (p : Place) (i w : ℕ) → first_of (standing b (entries_of t) (waiters_in (waits_of t) p)) ≡ Some (record { task = i; word = w }) → Waits t b p i w
 waits {t} h b p i w e = go (queue_at t b p) refl e (known_there h b p)
   where
-    go : (l : List Waiter) → queue_at t b p ≡ l → first_of l ≡ FirstIs i w → All (Known (length (entries_of t))) l → Waits t b p i w
+    go : (l : List Waiter) → queue_at t b p ≡ l → first_of l ≡ Some (record { task = i; word = w }) → All (Known (length (entries_of t))) l → Waits t b p i w
     go [] q e k = absurd (let z : ◌≡◌ {A = ℕ} 0 1 = cc in omega arith)
     go (x ∷ l) q e k =
-        let j : index x.task ≡ i = cc in
+        let f = some_is (record { task = i; word = w }) e in
+        let j : index x.task ≡ i = ap (λ (y : First). y.task) f in
         let n : x.task ≡ suc i = sym (number_back x.task k.0.0) ∙ ap suc j in
         let m = k.0.1 in
-        record { entry = x; rest = l; list = q; task = n; word = cc; low = omega arith }
+        record { entry = x; rest = l; list = q; task = n; word = ap (λ (y : First). y.word) f; low = omega arith }
 
 -- ---- from the number of the first
 pub first_task_lem : (l : List Waiter) → get_or (map task_in l) 0 0 ≡ first_task l
@@ -91,19 +91,19 @@ module _ {t : Tasks} (h : Held t) (b : Bool) (p : Place) (n : ℕ) (e : n ≡ fi
       go [] e k = refl
       go (x ∷ l) e k = absurd (k.0.0 (sym e ∙ z))
 
-  pub first_none : n ≡ 0 → Nobody ≡ first_of (standing b (entries_of t) (waiters_in (waits_of t) p))
+  pub first_none : n ≡ 0 → None ≡ first_of (standing b (entries_of t) (waiters_in (waits_of t) p))
   first_none z = sym (ap first_of (nobody z))
 
-  pub first_found : n ≢ 0 → FirstIs (n - 1) (waiter_of 0 (get_or t.entries (n - 1) no_task).wait).word ≡ first_of (standing b (entries_of t) (waiters_in (waits_of t) p))
+  pub first_found : n ≢ 0 → ◌≡◌ {A = Option First} (Some (record { task = n - 1; word = (waiter_of 0 (get_or t.entries (n - 1) no_task).wait).word })) (first_of (standing b (entries_of t) (waiters_in (waits_of t) p)))
   unfolding waits_of
   first_found z = go (queue_at t b p) e (all_there t b p (Shown t.entries) (shown t.entries (take t.waiting t.order)))
     where
-      go : (l : List Waiter) → n ≡ first_task l → All (Shown t.entries) l → FirstIs (n - 1) (waiter_of 0 (get_or t.entries (n - 1) no_task).wait).word ≡ first_of l
+      go : (l : List Waiter) → n ≡ first_task l → All (Shown t.entries) l → ◌≡◌ {A = Option First} (Some (record { task = n - 1; word = (waiter_of 0 (get_or t.entries (n - 1) no_task).wait).word })) (first_of l)
       go [] e k = absurd (z e)
       go (x ∷ l) e k =
           let i : n - 1 ≡ index x.task = less n z ∙ ap index e in
           let w = ap (λ (j : ℕ). (waiter_of 0 (get_or t.entries j no_task).wait).word) i ∙ sym (word_any (suc (index x.task)) (get_or t.entries (index x.task) no_task).wait) ∙ ap (λ (y : Waiter). y.word) k.0 in
-          λ j. FirstIs (i j) (w j)
+          λ j. Some (record { task = i j; word = w j })
 
   -- ---- the first leaves
   pub none_behind : n ≡ 0 → (k : ℕ) → 0 ≡ get_or (map task_in (standing b (entries_of t) (waiters_in (waits_of t) p))) k 0

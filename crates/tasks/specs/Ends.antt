@@ -8,16 +8,16 @@ use Rattle.model.specs.Waits.{absent, leave}
 use Rattle.model.specs.declared.Outcome.TheVariants.{Code}
 use Rattle.tasks.specs.declared.task.Task.{Task}
 use Rattle.tasks.specs.declared.wait.First.{First}
-use Rattle.tasks.specs.declared.wait.First.TheVariants.{Nobody, Waiter as FirstIs}
+use Rattle.std.specs.Prelude.{Option, Some, None}
 use Rattle.tasks.specs.declared.wait.Caller.{Caller}
 use Rattle.tasks.specs.declared.wait.Ended.{Ended}
 use Rattle.tasks.specs.View.{no_task}
 use Rattle.tasks.specs.Form.{task_as, tasks_as, wait_for}
 
 -- the first of a wait queue, with its word
-abbrev pub first_of : List Waiter → First
-first_of [] = Nobody
-first_of (e ∷ l) = FirstIs (index e.task) e.word
+abbrev pub first_of : List Waiter → Option First
+first_of [] = None
+first_of (e ∷ l) = Some (record { task = index e.task; word = e.word })
 
 -- the number of a waiting task
 abbrev pub task_in : Waiter → ℕ
@@ -28,8 +28,8 @@ abbrev pub is_task : List TaskEntry → ℕ → Bool
 is_task es t = not (eqb t 0) && leb t (length es)
 
 -- who calls: a registered ready task with its domain, or nobody who may
-abbrev pub caller_of : List TaskEntry → List Waiter → ℕ → Caller
-caller_of es ws t = cond (is_task es t && absent t ws) (Caller.Ready (index t) (at no_entry es t).domain) Caller.Nobody
+abbrev pub caller_of : List TaskEntry → List Waiter → ℕ → Option Caller
+caller_of es ws t = cond (is_task es t && absent t ws) (Some (record { task = index t; domain = (at no_entry es t).domain })) None
 
 -- the task with a number; an unused cell where there is none
 abbrev pub task_of : List TaskEntry → List Waiter → ℕ → Task

@@ -4,4 +4,5 @@ pub mod Held
 pub mod Orders
 pub mod Leads
 pub mod Ends
+pub mod Effects
 pub mod Entries

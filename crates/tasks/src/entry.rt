@@ -1,20 +1,20 @@
 // The entry of a task (document 01, "Building the table"; request T-10).
 ghost use Rattle.std.specs.Prelude.{◌≡◌};
-ghost use Rattle.model.specs.Answers.{result_of};
+ghost use Rattle.model.specs.Checks.{passed};
 ghost use Rattle.tasks.specs.Entries.{entry_check};
 
-use itron::code::{E_OK, E_PAR};
+use itron::error::Error;
 use itron::limit::MAX_PRIORITY;
 
-// Step 5 of the checks; E_OK where the entry is taken.
-pub fn check(priority: u32) -> i32
-    ensures { result ≡ result_of (entry_check priority) }
+// Step 5 of the checks.
+pub fn check(priority: u32) -> Result<(), Error>
+    ensures { result ≡ passed (entry_check priority) }
 {
     if priority < 1 {
-        return E_PAR;
+        return Err(Error::Par);
     }
     if MAX_PRIORITY < priority {
-        return E_PAR;
+        return Err(Error::Par);
     }
-    E_OK
+    Ok(())
 }

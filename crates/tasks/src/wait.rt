@@ -13,18 +13,18 @@ use access::domain;
 use itron::code::{E_OK, E_TMOUT};
 use model::{Outcome, Patience, Released, Reply, Side};
 
-// The first who waits at a place, with its word.
+// The index of the first who waits at a place, with its word.
 #[derive(Clone, Copy)]
-pub enum First {
-    Nobody,
-    Waiter(usize, u32),
+pub struct First {
+    pub task: usize,
+    pub word: u32,
 }
 
-// Who calls: a ready task with its domain, or nobody who may.
+// Who calls: the index of a ready task, with its domain.
 #[derive(Clone, Copy)]
-pub enum Caller {
-    Nobody,
-    Ready(usize, i32),
+pub struct Caller {
+    pub task: usize,
+    pub domain: i32,
 }
 
 // A call's end that changes the tasks only.
@@ -169,19 +169,19 @@ impl Tasks {
     }
 
     // The first who stands at a place, by priority or as they came.
-    pub fn first(self, side: Side, object: usize, by_priority: bool) -> First
+    pub fn first(self, side: Side, object: usize, by_priority: bool) -> Option<First>
         requires { Held self }
         ensures { result ≡ first_of (standing by_priority (entries_of self) (waiters_in (waits_of self) (place side (suc object)))) }
     {
         let number = self.first_number(side, object, by_priority);
         if number == 0 {
-            return First::Nobody;
+            return None;
         }
         let task = number - 1;
         let entries = self.entries;
         let entry = entries[task];
-        let wait = entry.wait;
-        First::Waiter(task, word_of(wait))
+        let word = word_of(entry.wait);
+        Some(First { task, word })
     }
 
     // The number of the first who stands at a place, by priority or as they came; 0 if nobody does.
@@ -196,20 +196,17 @@ impl Tasks {
     }
 
     // Who calls under a number: only a registered ready task may.
-    pub fn caller(self, number: i32) -> Caller
+    pub fn caller(self, number: i32) -> Option<Caller>
         requires { Held self }
         ensures { result ≡ caller_of (entries_of self) (waits_of self) (no number) }
     {
-        let ordinal = domain::ordinal(number, self.count);
-        if ordinal == 0 {
-            return Caller::Nobody;
-        }
+        let ordinal = domain::ordinal(number, self.count)?;
         let task = ordinal - 1;
         let entry = self.entries[task];
-        let wait = entry.wait;
-        match wait {
-            Wait::Ready => Caller::Ready(task, entry.domain()),
-            _ => Caller::Nobody,
+        let domain = entry.domain();
+        match entry.wait {
+            Wait::Ready => Some(Caller { task, domain }),
+            _ => None,
         }
     }
 

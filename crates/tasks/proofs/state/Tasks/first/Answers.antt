@@ -4,7 +4,7 @@ use native.Mathlib.Omega.{arith}
 use mathlib.Core.Path.{ap, ◌∙◌}
 use Rattle.itron.specs.Limits.{max_tasks}
 use Rattle.model.specs.State.{place}
-use Rattle.tasks.specs.declared.wait.First.TheVariants.{Waiter}
+use Rattle.std.specs.Prelude.{Some}
 use Rattle.tasks.proofs.Firsts.{first_none, first_found, first_low}
 use Rattle.tasks.proofs.state.Tasks.first.Goals as goal
 
@@ -32,4 +32,4 @@ bounds-entries-task c =
 pub returns : goal.returns
 returns c =
     let a = c.args in
-    ap (Waiter (c.first_number-number.result - 1)) (cc) ∙ first_found c.requires a.by_priority (place a.side (suc a.object)) c.first_number-number.result c.first_number-number.ensures c.if-number-eq0.false
+    ap (λ w. Some (record { task = c.first_number-number.result - 1; word = w })) (cc) ∙ first_found c.requires a.by_priority (place a.side (suc a.object)) c.first_number-number.result c.first_number-number.ensures c.if-number-eq0.false
