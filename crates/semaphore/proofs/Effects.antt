@@ -4,30 +4,19 @@ use native.Mathlib.Numerals.{add-one}
 use native.Mathlib.Omega.{arith}
 use mathlib.Core.Path.{◌≡◌, refl, sym, ap, ◌∙◌}
 use mathlib.Core.Bool.{Bool, true, false}
-use mathlib.Core.List.{List, [], ◌∷◌}
+use mathlib.Core.List.{List, []}
 use lib.Dec.{leb}
-use types.Run.{OneOf}
-use denote.Enum.Declared.{tag_of}
 use borrow.Author.Tests.{le-leb, lt-leb}
-use Rattle.itron.specs.Codes.{number_of}
 use Rattle.itron.specs.declared.error.Error.TheVariants.{Qovr as e_qovr}
 use Rattle.model.specs.Lists.{put}
 use Rattle.model.specs.State.{TaskEntry, Waiter, place}
 use Rattle.model.specs.Waits.{by_priority, or_waits}
-use Rattle.model.specs.Semaphores.{act_of, does, sem_in, set_count, waiters_of, signal_by, on_signal, acquire_by, on_acquire}
+use Rattle.model.specs.Semaphores.{sem_in, set_count, waiters_of, signal_by, on_signal, acquire_by, on_acquire}
 use Rattle.model.specs.declared.sem.Semaphore.{Semaphore}
-use Rattle.model.specs.declared.sem.SemaphoreCall.{SemaphoreCall}
-use Rattle.model.specs.declared.sem.SemaphoreCall.TheVariants.{Signal as signal, Acquire as acquire}
-use Rattle.model.specs.declared.sem.SemaphoreRequest.{SemaphoreRequest}
-use Rattle.model.specs.declared.sem.SemaphoreRequest.TheVariants as Request
-use Rattle.model.specs.contracts.sem.SemaphoreCall.{the_type as call_type}
-use Rattle.model.specs.contracts.sem.SemaphoreRequest.{the_type as request_type}
 use Rattle.model.specs.declared.Info.{Info}
 use Rattle.model.specs.declared.Reply.{Reply}
 use Rattle.model.specs.declared.Patience.{Patience}
 use Rattle.model.specs.declared.Side.TheVariants.{OnSem as on_sem}
-use Rattle.model.specs.declared.check.Check.{Check}
-use Rattle.model.specs.declared.check.Check.TheVariants.{Admitted}
 use Rattle.tasks.specs.declared.state.Tasks.{Tasks}
 use Rattle.tasks.specs.declared.task.Wait.TheVariants.{OnSem}
 use Rattle.tasks.specs.declared.wait.Ended.{Ended}
@@ -37,14 +26,15 @@ use Rattle.tasks.specs.Ends.{woken_of, ended_of}
 use Rattle.tasks.proofs.Firsts.{Waits}
 use Rattle.tasks.proofs.Rooms.{gives_by, refuses_by, wakes_by, waits_by}
 use Rattle.semaphore.specs.declared.state.Semaphores.{Semaphores}
-use Rattle.semaphore.specs.declared.call.Effect.{Effect}
+use Rattle.tasks.specs.declared.effect.Effect.{Effect}
+use Rattle.tasks.specs.Effects.{refused_with, done_with, ended_with}
 use Rattle.semaphore.specs.View.{sems_of}
 use Rattle.semaphore.specs.Form.{sems_as}
 use Rattle.semaphore.specs.Held.{Held}
-use Rattle.semaphore.specs.Effects.{acted, effect_as, refused_with, done_with, ended_with}
+use Rattle.semaphore.specs.Effects.{effect_as}
 
-abbrev pub effect : Reply → Info → Tasks → Semaphores → Effect
-effect r i t s = record { reply = r; info = i; tasks = t; semaphores = s }
+abbrev pub effect : Reply → Info → Tasks → Semaphores → Effect Semaphores
+effect r i t s = record { reply = r; info = i; tasks = t; records = s }
 
 abbrev with_count : Semaphore → ℕ → Semaphore
 with_count x n = record { domain = x.domain; attribute = x.attribute; max = x.max; count = n; vector = x.vector }
@@ -78,7 +68,7 @@ module _ {t : Tasks} {s : Semaphores} (ht : TasksHeld.Held t) (h : Held s) (k : 
           let g : b ≡ full (sem_in xs (suc k)) = sym f ∙ ap full is in
           λ i. effect_as es (signal_by ws xs (suc k) (sym e i) (g i))
 
-      pub signal_full_lem : x.max ≤ x.count → refused_with t s (number_of e_qovr) ≡ effect_as es (on_signal es ws xs (suc k))
+      pub signal_full_lem : x.max ≤ x.count → refused_with t s e_qovr ≡ effect_as es (on_signal es ws xs (suc k))
       signal_full_lem l = refuses_by sems_as effect ht h.form e_qovr ∙ signals true (le-leb x.max x.count l)
 
       pub signal_counts_lem : x.count < x.max → done_with t (sems_as (put xs (suc k) (with_count x (x.count + 1)))) 0 ≡ effect_as es (on_signal es ws xs (suc k))
@@ -96,22 +86,3 @@ module _ {t : Tasks} {s : Semaphores} (ht : TasksHeld.Held t) (h : Held s) (k : 
 
       pub acquire_waits_lem : x.count ≤ 0 → (e : Ended) → e ≡ ended_of es (or_waits {R = ℕ} ws [] p (waiter_of (suc task) (OnSem k))) → ended_with e s ≡ effect_as es (on_acquire ws xs (suc task) (suc k) p)
       acquire_waits_lem l e q = waits_by sems_as effect ht h.form p (waiter_of (suc task) (OnSem k)) e q ∙ acquires 0 (omega arith)
-
--- ---- by the call and by the request
-pub is_signal : (c : SemaphoreCall) → OneOf (0 ∷ []) (tag_of call_type c) → c ≡ signal
-is_signal signal t = refl
-is_signal (acquire p) t = absurd (omega arith)
-
-pub is_refer_lem : (r : SemaphoreRequest) → OneOf (1 ∷ []) (tag_of request_type r) → r ≡ Request.Refer
-is_refer_lem (Request.Own c) t = absurd (omega arith)
-is_refer_lem Request.Refer t = refl
-is_refer_lem (Request.SetVector v) t = absurd (omega arith)
-
-module _ (t : Tasks) (s : Semaphores) (task k : ℕ) {x : Effect} where
-  -- the call that was asked for
-  pub does_own : {c d : SemaphoreCall} → d ≡ c → x ≡ effect_as (entries_of t) (does (entries_of t) (waits_of t) (sems_of s) (suc task) (suc k) c) → x ≡ effect_as (entries_of t) (does (entries_of t) (waits_of t) (sems_of s) (suc task) (suc k) d)
-  does_own e f = f ∙ ap (λ (c : SemaphoreCall). effect_as (entries_of t) (does (entries_of t) (waits_of t) (sems_of s) (suc task) (suc k) c)) (sym e)
-
-  -- the request, on the object that the checks found
-  pub does_asked : {r q : SemaphoreRequest} {c : Check} → q ≡ r → c ≡ Admitted task k → x ≡ acted t s (act_of r) (Admitted task k) → x ≡ acted t s (act_of q) c
-  does_asked e g f = f ∙ (λ i. acted t s (act_of (sym e i)) (sym g i))

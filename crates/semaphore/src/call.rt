@@ -8,83 +8,35 @@ ghost use Rattle.tasks.specs.Held as TasksHeld;
 ghost use Rattle.tasks.specs.Held.{Passed};
 ghost use Rattle.semaphore.specs.View.{sems_of};
 ghost use Rattle.semaphore.specs.Held.{Held};
-ghost use Rattle.semaphore.specs.Effects.{acted, effect_as, refused_with, done_with, ended_with};
+ghost use Rattle.semaphore.specs.Effects.{acted, effect_as};
 
 use crate::state::Semaphores;
 use access::vector::Operation;
-use itron::code::{E_OK, E_QOVR};
-use model::check::Check;
+use itron::code::E_OK;
+use itron::error::Error;
+use model::check::Admitted;
 use model::sem::{SemaphoreCall, SemaphoreRequest};
 use model::{Info, Patience, Reply, Side, attribute};
+use tasks::effect::Effect;
 use tasks::state::Tasks;
 use tasks::task::Wait;
-use tasks::wait::{Ended, First};
-
-// What a call gives: the reply, what a refer tells, and the tasks and the semaphores after it.
-#[derive(Clone, Copy)]
-pub struct Effect {
-    pub reply: Reply,
-    pub info: Info,
-    pub tasks: Tasks,
-    pub semaphores: Semaphores,
-}
-
-// E_OK with a word, nobody released.
-pub(crate) fn done(tasks: Tasks, semaphores: Semaphores, word: u32) -> Effect
-    ensures { result ≡ done_with tasks semaphores word }
-{
-    Effect {
-        reply: Reply::plain(E_OK, word),
-        info: Info::NONE,
-        tasks,
-        semaphores,
-    }
-}
-
-// A refusal: its code, with everything as it was.
-pub(crate) fn refused(tasks: Tasks, semaphores: Semaphores, code: i32) -> Effect
-    ensures { result ≡ refused_with tasks semaphores code }
-{
-    Effect {
-        reply: Reply::plain(code, 0),
-        info: Info::NONE,
-        tasks,
-        semaphores,
-    }
-}
-
-// An end on the tasks, with the semaphores beside it.
-pub(crate) fn ended(end: Ended, semaphores: Semaphores) -> Effect
-    ensures { result ≡ ended_with end semaphores }
-{
-    let reply = end.reply;
-    let tasks = end.tasks;
-    Effect {
-        reply,
-        info: Info::NONE,
-        tasks,
-        semaphores,
-    }
-}
 
 // Signal.
-pub(crate) fn signal(tasks: Tasks, semaphores: Semaphores, object: usize) -> Effect
+pub(crate) fn signal(tasks: Tasks, semaphores: Semaphores, object: usize) -> Effect<Semaphores>
     requires { TasksHeld.Held tasks × Held semaphores × (object < length (sems_of semaphores)) }
     ensures { result ≡ effect_as (entries_of tasks) (on_signal (entries_of tasks) (waits_of tasks) (sems_of semaphores) (suc object)) }
 {
     // The attribute says who is first. Measured: reading it copies the semaphores once, here and by `get`.
     let mut semaphore = semaphores.records[object];
     let by_priority = attribute::by_priority(semaphore.attribute);
-    match tasks.first(Side::OnSem, object, by_priority) {
-        First::Waiter(waiter, _) => ended(tasks.wake(waiter, 0, 0), semaphores),
-        First::Nobody => {
-            if semaphore.count >= semaphore.max {
-                return refused(tasks, semaphores, E_QOVR);
-            }
-            semaphore.count = semaphore.count + 1;
-            done(tasks, semaphores.put(object, semaphore), 0)
-        },
+    if let Some(first) = tasks.first(Side::OnSem, object, by_priority) {
+        return Effect::ended(tasks.wake(first.task, 0, 0), semaphores);
     }
+    if semaphore.count >= semaphore.max {
+        return Effect::refused(tasks, semaphores, Error::Qovr);
+    }
+    semaphore.count += 1;
+    Effect::done(tasks, semaphores.put(object, semaphore), 0)
 }
 
 // Poll and wait.
@@ -94,16 +46,16 @@ pub(crate) fn acquire(
     task: usize,
     object: usize,
     patience: Patience,
-) -> Effect
+) -> Effect<Semaphores>
     requires { TasksHeld.Held tasks × Held semaphores × TasksHeld.Free (entries_of tasks) (waits_of tasks) task × (object < length (sems_of semaphores)) }
     ensures { result ≡ effect_as (entries_of tasks) (on_acquire (waits_of tasks) (sems_of semaphores) (suc task) (suc object) patience) }
 {
     let mut semaphore = semaphores.get(object);
     if 0 < semaphore.count {
-        semaphore.count = semaphore.count - 1;
-        return done(tasks, semaphores.put(object, semaphore), 0);
+        semaphore.count -= 1;
+        return Effect::done(tasks, semaphores.put(object, semaphore), 0);
     }
-    ended(
+    Effect::ended(
         tasks.or_wait(task, Wait::OnSem(object as u8), patience),
         semaphores,
     )
@@ -116,7 +68,7 @@ pub(crate) fn own(
     task: usize,
     object: usize,
     call: SemaphoreCall,
-) -> Effect
+) -> Effect<Semaphores>
     requires { TasksHeld.Held tasks × Held semaphores × TasksHeld.Free (entries_of tasks) (waits_of tasks) task × (object < length (sems_of semaphores)) }
     ensures { result ≡ effect_as (entries_of tasks) (does (entries_of tasks) (waits_of tasks) (sems_of semaphores) (suc task) (suc object) call) }
 {
@@ -127,7 +79,7 @@ pub(crate) fn own(
 }
 
 // Refer.
-pub(crate) fn refer(tasks: Tasks, semaphores: Semaphores, object: usize) -> Effect
+pub(crate) fn refer(tasks: Tasks, semaphores: Semaphores, object: usize) -> Effect<Semaphores>
     requires { TasksHeld.Held tasks × Held semaphores × (object < length (sems_of semaphores)) }
     ensures { result ≡ effect_as (entries_of tasks) (Model.effect (Model.tells (told (entries_of tasks) (waits_of tasks) (sems_of semaphores) (suc object))) (waits_of tasks) (sems_of semaphores)) }
 {
@@ -144,7 +96,7 @@ pub(crate) fn refer(tasks: Tasks, semaphores: Semaphores, object: usize) -> Effe
             vector,
         },
         tasks,
-        semaphores,
+        records: semaphores,
     }
 }
 
@@ -163,20 +115,24 @@ pub fn operation(request: SemaphoreRequest) -> Operation
 }
 
 // What a request does, by what its checks found.
-pub fn act(tasks: Tasks, semaphores: Semaphores, check: Check, request: SemaphoreRequest) -> Effect
+pub fn act(
+    tasks: Tasks,
+    semaphores: Semaphores,
+    check: Result<Admitted, Error>,
+    request: SemaphoreRequest,
+) -> Effect<Semaphores>
     requires { TasksHeld.Held tasks × Held semaphores × Passed tasks (length (sems_of semaphores)) check }
     ensures { result ≡ acted tasks semaphores (act_of request) check }
 {
-    match check {
-        Check::Refused(code) => refused(tasks, semaphores, code),
-        Check::Admitted(task, object) => match request {
-            SemaphoreRequest::Own(call) => own(tasks, semaphores, task, object, call),
-            SemaphoreRequest::Refer => refer(tasks, semaphores, object),
-            SemaphoreRequest::SetVector(vector) => done(
-                tasks,
-                semaphores.set_vector(object, vector),
-                0,
-            ),
-        },
+    let Admitted { task, object } = match check {
+        Ok(admitted) => admitted,
+        Err(error) => return Effect::refused(tasks, semaphores, error),
+    };
+    match request {
+        SemaphoreRequest::Own(call) => own(tasks, semaphores, task, object, call),
+        SemaphoreRequest::Refer => refer(tasks, semaphores, object),
+        SemaphoreRequest::SetVector(vector) => {
+            Effect::done(tasks, semaphores.set_vector(object, vector), 0)
+        }
     }
 }

@@ -1,7 +1,7 @@
 // The entry of a semaphore (document 01, "Building the table").
 ghost use Rattle.std.specs.Prelude.{◌≡◌, [], ◌∷◌, ◌++◌, ◌<◌, length};
 ghost use Rattle.itron.specs.Limits.{max_semaphores};
-ghost use Rattle.model.specs.Answers.{result_of};
+ghost use Rattle.model.specs.Checks.{passed};
 ghost use Rattle.model.specs.Semaphores.{new_sem};
 ghost use Rattle.semaphore.specs.View.{sems_of};
 ghost use Rattle.semaphore.specs.Form.{sems_as};
@@ -9,8 +9,8 @@ ghost use Rattle.semaphore.specs.Held.{Held};
 ghost use Rattle.semaphore.specs.Entries.{entry_check};
 
 use crate::state::Semaphores;
-use access::vector::Choice;
-use itron::code::{E_OK, E_PAR, E_RSATR};
+use access::vector::Vector;
+use itron::error::Error;
 use itron::limit::MAX_COUNT;
 use model::attribute;
 use model::sem::Semaphore;
@@ -21,26 +21,26 @@ pub struct SemaphoreEntry {
     pub attribute: u32,
     pub start: u32,
     pub max: u32,
-    pub vector: Choice,
+    pub vector: Option<Vector>,
 }
 
-// Steps 4 and 5 of the checks, first hit wins; E_OK where the entry is taken.
-pub fn check(attribute: u32, start: u32, max: u32) -> i32
-    ensures { result ≡ result_of (entry_check attribute start max) }
+// Steps 4 and 5 of the checks, first hit wins.
+pub fn check(attribute: u32, start: u32, max: u32) -> Result<(), Error>
+    ensures { result ≡ passed (entry_check attribute start max) }
 {
     if !attribute::is_order(attribute) {
-        return E_RSATR;
+        return Err(Error::Rsatr);
     }
     if max < 1 {
-        return E_PAR;
+        return Err(Error::Par);
     }
     if MAX_COUNT < max {
-        return E_PAR;
+        return Err(Error::Par);
     }
     if max < start {
-        return E_PAR;
+        return Err(Error::Par);
     }
-    E_OK
+    Ok(())
 }
 
 impl Semaphores {
@@ -49,8 +49,7 @@ impl Semaphores {
         requires { Held self × (length (sems_of self) < max_semaphores) }
         ensures { result ≡ sems_as (sems_of self ++ (new_sem given.domain given.attribute given.start given.max given.vector ∷ [])) }
     {
-        let choice = given.vector;
-        let vector = choice.resolve(given.domain);
+        let vector = Vector::resolved(given.vector, given.domain);
         self.add(Semaphore {
             domain: given.domain,
             attribute: given.attribute,

@@ -12,6 +12,7 @@ ghost use Rattle.semaphore.specs.Held.{Held};
 
 use access::domain;
 use access::vector::Vector;
+use itron::error::Error;
 use itron::limit::MAX_SEMAPHORES;
 use model::check::Target;
 use model::sem::Semaphore;
@@ -93,21 +94,20 @@ impl Semaphores {
     }
 
     // Which semaphore a number names.
-    pub fn find(self, id: i32) -> Target
+    pub fn find(self, id: i32) -> Result<Target, Error>
         requires { Held self }
         ensures { result ≡ target_in room (sems_of self) (no id) }
     {
-        let ordinal = domain::ordinal(id, MAX_SEMAPHORES);
-        if ordinal == 0 {
-            return Target::OutOfRange;
-        }
+        let ordinal = domain::ordinal(id, MAX_SEMAPHORES).ok_or(Error::Id)?;
         if self.count < ordinal {
-            return Target::Missing;
+            return Err(Error::Noexs);
         }
         let object = ordinal - 1;
         let semaphore = self.get(object);
-        let vector = semaphore.vector;
-        Target::At(object, vector)
+        Ok(Target {
+            object,
+            vector: semaphore.vector,
+        })
     }
 
     // Set-vector: all four patterns are replaced.

@@ -2,7 +2,7 @@
 use native.Mathlib.Omega.{arith}
 use mathlib.Core.Path.{ap, ◌∙◌}
 use Rattle.semaphore.specs.declared.state.Semaphores.{Semaphores}
-use Rattle.semaphore.specs.Effects.{done_with}
+use Rattle.tasks.specs.Effects.{done_with}
 use Rattle.semaphore.proofs.Back.{count_seen}
 use Rattle.semaphore.proofs.Effects.{acquire_takes, acquire_waits_lem}
 use Rattle.semaphore.proofs.call.acquire.Goals as goal

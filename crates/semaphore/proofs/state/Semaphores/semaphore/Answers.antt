@@ -2,13 +2,10 @@
 use native.Mathlib.Omega.{arith}
 use mathlib.Core.Path.{◌∙◌}
 use Rattle.model.specs.State.{no_sem}
-use Rattle.model.proofs.Lists.{at_zero, at_past, at_index}
+use Rattle.model.proofs.Lists.{at_past, at_index}
 use Rattle.semaphore.specs.View.{sems_of}
 use Rattle.semaphore.proofs.Back.{count_seen, get_seen}
 use Rattle.semaphore.proofs.state.Semaphores.semaphore.Goals as goal
-
-pub returns-then-number-eq0 : goal.returns-then-number-eq0
-returns-then-number-eq0 c = at_zero no_sem (sems_of c.args.self) c.args.number c.if-number-eq0.true
 
 pub returns-then-self-number : goal.returns-then-self-number
 returns-then-self-number c =
