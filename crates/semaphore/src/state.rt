@@ -34,6 +34,7 @@ pub(crate) const NO_SEMAPHORE: Semaphore = Semaphore {
 
 impl Semaphores {
     // No semaphore.
+    #[tactic(auto, unfolding(crate::specs::Form::sems_as))]
     pub fn empty() -> Semaphores
         ensures { result ≡ sems_as [] }
     {
@@ -44,6 +45,7 @@ impl Semaphores {
     }
 
     // How many semaphores there are.
+    #[tactic(auto, using(crate::proofs::Back::count_seen))]
     pub fn len(self) -> usize
         requires { Held self }
         ensures { result ≡ length (sems_of self) }
@@ -52,6 +54,7 @@ impl Semaphores {
     }
 
     // One semaphore more, the last.
+    #[tactic(auto, using(crate::proofs::Back::count_seen, crate::proofs::Back::add_seen))]
     pub(crate) fn add(mut self, semaphore: Semaphore) -> Semaphores
         requires { Held self × (length (sems_of self) < max_semaphores) }
         ensures { result ≡ sems_as (sems_of self ++ (semaphore ∷ [])) }
@@ -78,6 +81,7 @@ impl Semaphores {
     }
 
     // The semaphore with an index.
+    #[tactic(auto, using(crate::proofs::Back::count_seen, crate::proofs::Back::get_seen))]
     pub(crate) fn get(self, object: usize) -> Semaphore
         requires { Held self × (object < length (sems_of self)) }
         ensures { result ≡ sem_in (sems_of self) (suc object) }
@@ -85,6 +89,7 @@ impl Semaphores {
         self.records[object]
     }
 
+    #[tactic(auto, using(crate::proofs::Back::count_seen, crate::proofs::Back::put_seen))]
     pub(crate) fn put(mut self, object: usize, semaphore: Semaphore) -> Semaphores
         requires { Held self × (object < length (sems_of self)) }
         ensures { result ≡ sems_as (put (sems_of self) (suc object) semaphore) }
