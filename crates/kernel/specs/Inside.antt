@@ -14,14 +14,11 @@ use Rattle.model.specs.Answers.{Out, code_of, refuse_if}
 use Rattle.model.specs.Acts.{Act}
 use Rattle.model.specs.Rooms.{Room, ready, check}
 use Rattle.model.specs.Checks.{checked}
-use Rattle.model.specs.declared.check.Check.{Check}
-use Rattle.model.specs.declared.check.Check.TheVariants.{Refused, Admitted}
+use Rattle.model.specs.declared.check.Admitted.{Admitted}
 use Rattle.model.specs.declared.check.Target.{Target}
-use Rattle.model.specs.declared.check.Target.TheVariants.{OutOfRange, Missing, At}
 use Rattle.tasks.specs.declared.state.Tasks.{Tasks}
 use Rattle.tasks.specs.declared.wait.Caller.{Caller}
 use Rattle.levels.specs.declared.state.Levels.{Levels}
-use Rattle.levels.specs.declared.call.Effect.{Effect}
 use Rattle.levels.specs.Form.{levels_as}
 use Rattle.semaphore.specs.declared.state.Semaphores.{Semaphores}
 use Rattle.dataqueue.specs.declared.state.Queues.{Queues}
@@ -50,30 +47,28 @@ shut s = record { domains = s.domains; closed = true; tasks = s.tasks; levels = 
 
 -- ---- the checks
 -- a registered ready task of a closed table, with the domain as which it runs
-abbrev pub caller_in : Model.State → ℕ → Caller
-caller_in m t = cond (m.fixed.closed && ready m t) (Caller.Ready (index t) (running_at m t)) Caller.Nobody
+abbrev pub caller_in : Model.State → ℕ → Program.Option Caller
+caller_in m t = cond (m.fixed.closed && ready m t) (Some (record { task = index t; domain = running_at m t })) None
 
 -- first hit wins: who calls, which object, and whether the caller's running domain is admitted
-abbrev pub checked_by : Caller → Operation → Target → Check
-checked_by Caller.Nobody o x = Refused (number_of e_ctx)
-checked_by (Caller.Ready t d) o OutOfRange = Refused (number_of e_id)
-checked_by (Caller.Ready t d) o Missing = Refused (number_of e_noexs)
-checked_by (Caller.Ready t d) o (At n v) = cond (admitted (pattern_of v o) d) (Admitted t n) (Refused (number_of e_oacv))
+abbrev pub checked_by : Program.Option Caller → Operation → Result Target Err → Result Admitted Err
+checked_by None o x = Refused e_ctx
+checked_by (Some c) o (Refused e) = Refused e
+checked_by (Some c) o (Ok x) = cond (admitted (pattern_of x.vector o) c.domain) (Ok (record { task = c.task; object = x.object })) (Refused e_oacv)
 
 -- what the checks give for an act of task z on the object n
-abbrev pub check_of : {C R : Type 0} → Room C R → State → ℤ → ℤ → Act C → Check
+abbrev pub check_of : {C R : Type 0} → Room C R → State → ℤ → ℤ → Act C → Result Admitted Err
 check_of r s z n a = checked (check r (view_of s) (no z) (no n) a) (no z) (no n)
 
--- ---- what a call on the caller's level gives: its code and the levels after it
-abbrev pub levels_given : Out → Effect
-levels_given o = record { code = code_of o.answer.code; levels = levels_as o.state.levels }
+-- ---- what a call on the caller's level gives: a refusal, or the levels after it
+abbrev pub levels_given : Code → Levels → Result Levels Err
+levels_given ok x = Ok x
+levels_given waiting x = Ok x
+levels_given (error e) x = Refused e
+
+abbrev pub levels_after : Out → Result Levels Err
+levels_after o = levels_given o.answer.code (levels_as o.state.levels)
 
 -- ---- steps 1 to 3 of an entry's checks
 abbrev pub opening : Bool → ℕ → ℕ → Bool → Option Err
 opening closed used most owned = refuse_if closed e_ctx (refuse_if (not (ltb used most)) e_noid (refuse_if (not owned) e_id none))
-
--- of two codes of checks the first that refuses
-abbrev pub first_hit : ℤ → ℤ → ℤ
-first_hit (pos zero) z = z
-first_hit (pos (suc n)) z = pos (suc n)
-first_hit (negsuc n) z = negsuc n

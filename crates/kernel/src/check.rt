@@ -9,45 +9,41 @@ use crate::state::State;
 use access::domain::running;
 use access::pattern::admits;
 use access::vector::Operation;
-use itron::code::{E_CTX, E_ID, E_NOEXS, E_OACV};
-use model::check::{Check, Target};
+use itron::error::Error;
+use model::check::{Admitted, Target};
 use tasks::wait::Caller;
 
 impl State {
     // A registered ready task of a closed table, with the domain as which it runs.
-    pub(crate) fn caller(self, number: i32) -> Caller
+    pub(crate) fn caller(self, number: i32) -> Option<Caller>
         requires { Valid self }
         ensures { result ≡ caller_in (view_of self) (no number) }
     {
         if !self.closed {
-            return Caller::Nobody;
+            return None;
         }
         let tasks = self.tasks;
-        let Caller::Ready(task, domain) = tasks.caller(number) else {
-            return Caller::Nobody;
-        };
+        let Caller { task, domain } = tasks.caller(number)?;
         let levels = self.levels;
-        Caller::Ready(task, running(domain, levels.level(task)))
+        let domain = running(domain, levels.level(task));
+        Some(Caller { task, domain })
     }
 
     // First hit wins.
-    pub(crate) fn check(self, caller: i32, target: Target, operation: Operation) -> Check
+    pub(crate) fn check(
+        self,
+        caller: i32,
+        target: Result<Target, Error>,
+        operation: Operation,
+    ) -> Result<Admitted, Error>
         requires { Valid self }
         ensures { result ≡ checked_by (caller_in (view_of self) (no caller)) operation target }
     {
-        let Caller::Ready(task, domain) = self.caller(caller) else {
-            return Check::Refused(E_CTX);
-        };
-        match target {
-            Target::OutOfRange => Check::Refused(E_ID),
-            Target::Missing => Check::Refused(E_NOEXS),
-            Target::At(object, vector) => {
-                if admits(vector.pattern(operation), domain) {
-                    Check::Admitted(task, object)
-                } else {
-                    Check::Refused(E_OACV)
-                }
-            },
+        let Caller { task, domain } = self.caller(caller).ok_or(Error::Ctx)?;
+        let Target { object, vector } = target?;
+        if !admits(vector.pattern(operation), domain) {
+            return Err(Error::Oacv);
         }
+        Ok(Admitted { task, object })
     }
 }
