@@ -1,9 +1,7 @@
 -- What a search answers, as one number. Definitions only.
-use Rattle.std.specs.Prelude.{ℕ}
-use Rattle.regions.specs.declared.search.Found.{Found}
-use Rattle.regions.specs.declared.search.Found.TheVariants.{At, Nothing}
+use Rattle.std.specs.Prelude.{ℕ, Option, Some, None}
 
 -- the index of the region that was found, the number of regions where there is none
-abbrev pub index_of : ℕ → Found → ℕ
-index_of count (At i) = i
-index_of count Nothing = count
+abbrev pub index_of : ℕ → Option ℕ → ℕ
+index_of count (Some i) = i
+index_of count None = count

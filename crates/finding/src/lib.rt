@@ -5,7 +5,7 @@ ghost use Rattle.std.specs.Prelude.{◌≡◌, ◌≤◌, length};
 ghost use Rattle.regions.specs.Search.{InOrder, lookup};
 ghost use Rattle.finding.specs.Index.{index_of};
 
-use regions::search::{Found, find};
+use regions::search::find;
 
 // The index of the region that holds an address, the number of regions where there is none. That they are at most 64, in order, each with a size, is the host's promise.
 #[unsafe(no_mangle)]
@@ -14,8 +14,5 @@ pub extern "C" fn finding_find<'a>(bases: &'a [u32], sizes: &'a [u32], address: 
     ensures { result ≡ index_of (length bases.now) (lookup bases.now sizes.now address 0 (length bases.now)) }
 {
     let count = bases.len();
-    match find(bases, sizes, count, address) {
-        Found::At(index) => index,
-        Found::Nothing => count,
-    }
+    find(bases, sizes, count, address).unwrap_or(count)
 }

@@ -7,31 +7,34 @@ use mathlib.Core.List.{List, [], ◌∷◌}
 use mathlib.Core.Option.{none}
 use lib.Dec.{leb}
 use lib.IntN.{ℤ}
+use Rattle.std.specs.Prelude.{Result}
+use Rattle.itron.specs.declared.error.Error.{Error as Err}
 use lib.ListN.{length, get_or, drop, get_or-eq_default}
 use lib.Seq.{drop-cons}
 use Rattle.itron.specs.declared.error.Error.TheVariants.{Rsatr as e_rsatr, Par as e_par, Obj as e_obj, Macv as e_macv}
 use Rattle.itron.specs.Limits.{address_end}
 use Rattle.model.specs.Lists.{at}
 use Rattle.model.specs.State.{Region, no_region}
-use Rattle.model.specs.Answers.{refuse_if, result_of}
+use Rattle.model.specs.Answers.{refuse_if}
+use Rattle.model.specs.Checks.{passed}
 use Rattle.model.specs.Regions.{end, is_area, last_end, in_chain, wishes_ok, allows, area_ok, judge_in}
 
 -- ---- ladders of checks, by the values of their tests
-abbrev pub enters : Bool → Bool → Bool → ℤ
-enters attribute numbers place = result_of (refuse_if (not attribute) e_rsatr (refuse_if (not numbers) e_par (refuse_if (not place) e_obj none)))
+abbrev pub enters : Bool → Bool → Bool → Result Unit Err
+enters attribute numbers place = passed (refuse_if (not attribute) e_rsatr (refuse_if (not numbers) e_par (refuse_if (not place) e_obj none)))
 
-abbrev pub judges : Bool → Bool → ℤ
-judges inside allowed = result_of (refuse_if (not inside) e_obj (refuse_if (not allowed) e_macv none))
+abbrev pub judges : Bool → Bool → Result Unit Err
+judges inside allowed = passed (refuse_if (not inside) e_obj (refuse_if (not allowed) e_macv none))
 
-abbrev pub rules : ℤ → ℕ → ℕ → ℕ → Bool → List Region → ℤ
-rules d base size w area regions = result_of (refuse_if (not area) e_par (judge_in regions d base size w))
+abbrev pub rules : ℤ → ℕ → ℕ → ℕ → Bool → List Region → Result Unit Err
+rules d base size w area regions = passed (refuse_if (not area) e_par (judge_in regions d base size w))
 
 -- ---- the region at an index, and the chain from there on, decide what they find
 pub judged_at : (rs : List Region) (i : ℕ) → i < length rs → (d : ℤ) (base size w : ℕ)
-    → judges (in_chain (drop i rs) (base + size)) (allows (get_or rs i no_region) d w) ≡ result_of (judge_in (drop i rs) d base size w)
+    → judges (in_chain (drop i rs) (base + size)) (allows (get_or rs i no_region) d w) ≡ passed (judge_in (drop i rs) d base size w)
 judged_at rs i l d base size w =
     subst
-    (λ (m : List Region). judges (in_chain m (base + size)) (allows (get_or rs i no_region) d w) ≡ result_of (judge_in m d base size w))
+    (λ (m : List Region). judges (in_chain m (base + size)) (allows (get_or rs i no_region) d w) ≡ passed (judge_in m d base size w))
     (sym (drop-cons rs i no_region l))
     refl
 

@@ -11,7 +11,7 @@ use lib.ListN.{get_or}
 use lib.Pow.{pow_pos}
 use borrow.Author.Tests.{leb-true, leb-false}
 use Rattle.itron.specs.Limits.{max_regions}
-use Rattle.regions.specs.declared.search.Found.TheVariants.{At, Nothing}
+use Rattle.std.specs.Prelude.{Some, None}
 use Rattle.regions.specs.Search.{InOrder, covered_by, lookup}
 use Rattle.regions.proofs.Searches.{starts_past, ends_before, one_decides}
 
@@ -62,7 +62,7 @@ module _ (bs ss : List ℕ) (n a : ℕ) where
         go false e = lower (leb-false (get_or bs m 0) a e)
 
   -- ---- the one region that is left decides
-  one_left : (first : ℕ) → Left first 1 → lookup bs ss a 0 n ≡ cond (covered_by (get_or bs first 0) (get_or ss first 0) a) (At first) Nothing
+  one_left : (first : ℕ) → Left first 1 → lookup bs ss a 0 n ≡ cond (covered_by (get_or bs first 0) (get_or ss first 0) a) (Some first) None
   one_left first v =
       let i = v.inside in
       one_decides bs ss a n 0 first (omega arith) (omega arith)
@@ -132,5 +132,5 @@ module _ {bs ss : List ℕ} {n a : ℕ} where
         let f = h.few in
         record { begun = omega arith; halves = ap (λ (w : ℕ). w / 2) e; few = omega arith; left = subst (Left bs ss n a first') e v }
 
-    pub decides : rounds ≤ round → lookup bs ss a 0 n ≡ cond (covered_by (get_or bs first 0) (get_or ss first 0) a) (At first) Nothing
+    pub decides : rounds ≤ round → lookup bs ss a 0 n ≡ cond (covered_by (get_or bs first 0) (get_or ss first 0) a) (Some first) None
     decides l = let e : rounds - round ≡ 0 = omega arith in one_left bs ss n a first (subst (λ (k : ℕ). Left bs ss n a first (2 ^ k)) e h.left)

@@ -1,7 +1,7 @@
 // Region entries (document 01, "Building the table").
 ghost use Rattle.std.specs.Prelude.{◌≡◌, ◌<◌, [], ◌∷◌, ◌++◌, length};
 ghost use Rattle.itron.specs.Limits.{max_regions};
-ghost use Rattle.model.specs.Answers.{result_of};
+ghost use Rattle.model.specs.Checks.{passed};
 ghost use Rattle.model.specs.Regions.{attribute_ok, is_area, last_end};
 ghost use Rattle.regions.specs.View.{regions_of};
 ghost use Rattle.regions.specs.Form.{regions_as};
@@ -13,8 +13,8 @@ ghost use Rattle.regions.specs.Entries.{entry_check};
 use crate::flag::{EXECUTABLE, NO_WRITE};
 use crate::state::{Protection, Regions};
 use crate::unit::is_whole;
-use access::vector::{Choice, Vector};
-use itron::code::{E_OBJ, E_OK, E_PAR, E_RSATR};
+use access::vector::Vector;
+use itron::error::Error;
 use itron::limit::ADDRESS_END;
 
 #[derive(Clone, Copy)]
@@ -23,7 +23,7 @@ pub struct RegionEntry {
     pub attribute: u32,
     pub base: u32,
     pub size: u32,
-    pub vector: Choice,
+    pub vector: Option<Vector>,
 }
 
 // Whether an attribute has no bits but no-write and execute.
@@ -56,24 +56,24 @@ impl Regions {
         self.at(count - 1).end()
     }
 
-    // The code of an entry's attribute and numbers, by the checks of document 01 in their order.
-    pub fn check(self, attribute: u32, base: u32, size: u32) -> i32
+    // An entry's attribute and numbers, by the checks of document 01 in their order.
+    pub fn check(self, attribute: u32, base: u32, size: u32) -> Result<(), Error>
         requires { Held self }
-        ensures { result ≡ result_of (entry_check self.unit (regions_of self) attribute base size) }
+        ensures { result ≡ passed (entry_check self.unit (regions_of self) attribute base size) }
     {
         let known = is_attribute(attribute);
         let fits = is_area(base, size) & is_whole(self.unit, base, size);
         let free = self.last_end() <= base as u64;
         if !known {
-            return E_RSATR;
+            return Err(Error::Rsatr);
         }
         if !fits {
-            return E_PAR;
+            return Err(Error::Par);
         }
         if !free {
-            return E_OBJ;
+            return Err(Error::Obj);
         }
-        E_OK
+        Ok(())
     }
 
     // The regions with one more, the last.
@@ -106,8 +106,7 @@ impl Regions {
         requires { Held self × (length (regions_of self) < max_regions) }
         ensures { result ≡ regions_as self.unit (regions_of self ++ (new_region given.domain given.attribute given.base given.size given.vector ∷ [])) }
     {
-        let choice = given.vector;
-        let vector = choice.resolve(given.domain);
+        let vector = Vector::resolved(given.vector, given.domain);
         self.add(
             given.domain,
             given.attribute,

@@ -4,13 +4,6 @@ ghost use Rattle.regions.specs.Search.{InOrder, covered_by, lookup};
 
 use itron::limit::MAX_REGIONS;
 
-// The index of a region, if there is one.
-#[derive(Clone, Copy)]
-pub enum Found {
-    At(usize),
-    Nothing,
-}
-
 // A round of the search looks at one region at most. All but the last halve what is left, the last looks at the one region left.
 const ROUNDS: u32 = 7;
 
@@ -35,14 +28,14 @@ pub(crate) fn half_from<'a>(bases: &'a [u32], first: usize, middle: usize, addre
     first
 }
 
-// The first of `count` regions that holds an address. They are in order, so no other can than the last that starts at or below it.
+// The index of the first of `count` regions that holds an address. They are in order, so no other can than the last that starts at or below it.
 // Before a round of the loop twice `half` regions are left, or all where those are fewer; which it is depends on the count alone.
-pub fn find<'a>(bases: &'a [u32], sizes: &'a [u32], count: usize, address: u32) -> Found
+pub fn find<'a>(bases: &'a [u32], sizes: &'a [u32], count: usize, address: u32) -> Option<usize>
     requires { (count ≤ length bases.now) × (count ≤ length sizes.now) × InOrder bases.now sizes.now count }
     ensures { result ≡ lookup bases.now sizes.now address 0 count }
 {
     if count == 0 {
-        return Found::Nothing;
+        return None;
     }
     let mut first: usize = 0;
     let mut half = MAX_REGIONS / 2;
@@ -57,7 +50,7 @@ pub fn find<'a>(bases: &'a [u32], sizes: &'a [u32], count: usize, address: u32) 
         round += 1;
     }
     if covers(bases[first], sizes[first], address) {
-        return Found::At(first);
+        return Some(first);
     }
-    Found::Nothing
+    None
 }

@@ -1,16 +1,16 @@
 // The memory verdict on a closed table for a known domain (document 01, "The memory verdict").
 ghost use Rattle.std.specs.Prelude.{◌≡◌, drop};
-ghost use Rattle.model.specs.Answers.{result_of};
+ghost use Rattle.model.specs.Checks.{passed};
 ghost use Rattle.model.specs.Regions.{may_write, may_read, may_execute, grants, allows, wishes_ok, area_ok, judge_in, judge};
 ghost use Rattle.regions.specs.View.{regions_of, shown_as};
 ghost use Rattle.regions.specs.Held.{Held, Indexed};
 
 use crate::entry::is_area;
 use crate::flag::{EXECUTABLE, EXECUTE, NO_WRITE, READ, WRITE, has};
-use crate::search::{Found, find};
+use crate::search::find;
 use crate::state::{RegionInfo, Regions};
 use access::pattern::admits;
-use itron::code::{E_MACV, E_NOEXS, E_OBJ, E_OK, E_PAR};
+use itron::error::Error;
 
 // Whether there is a wish and no unknown one.
 pub(crate) fn is_wish(wishes: u32) -> bool
@@ -67,7 +67,7 @@ impl RegionInfo {
 }
 
 impl Regions {
-    // The code of the verdict on an area that starts in a region, given with its index.
+    // The verdict on an area that starts in a region, given with its index.
     pub(crate) fn judge_at(
         self,
         index: usize,
@@ -76,37 +76,33 @@ impl Regions {
         base: u32,
         size: u32,
         wishes: u32,
-    ) -> i32
+    ) -> Result<(), Error>
         requires { Indexed self index region }
-        ensures { result ≡ result_of (judge_in (drop index (regions_of self)) domain base size wishes) }
+        ensures { result ≡ passed (judge_in (drop index (regions_of self)) domain base size wishes) }
     {
         let inside = self.reaches(index, region, base as u64 + size as u64);
         let allowed = region.allows(domain, wishes);
         if !inside {
-            return E_OBJ;
+            return Err(Error::Obj);
         }
         if !allowed {
-            return E_MACV;
+            return Err(Error::Macv);
         }
-        E_OK
+        Ok(())
     }
 
-    // The code of the verdict, whatever is asked; the region is read in place, since `at` would take a copy of all regions.
-    pub fn judge(self, domain: i32, base: u32, size: u32, wishes: u32) -> i32
+    // The verdict, whatever is asked; the region is read in place, since `at` would take a copy of all regions.
+    pub fn judge(self, domain: i32, base: u32, size: u32, wishes: u32) -> Result<(), Error>
         requires { Held self }
-        ensures { result ≡ result_of (judge (regions_of self) domain base size wishes) }
+        ensures { result ≡ passed (judge (regions_of self) domain base size wishes) }
     {
         if !is_request(base, size, wishes) {
-            return E_PAR;
+            return Err(Error::Par);
         }
         let count = self.count;
-        match find(&self.bases, &self.sizes, count, base) {
-            Found::At(index) => {
-                let protection = self.protections[index];
-                let region = RegionInfo::of(self.bases[index], self.sizes[index], protection);
-                self.judge_at(index, region, domain, base, size, wishes)
-            },
-            Found::Nothing => E_NOEXS,
-        }
+        let index = find(&self.bases, &self.sizes, count, base).ok_or(Error::Noexs)?;
+        let protection = self.protections[index];
+        let region = RegionInfo::of(self.bases[index], self.sizes[index], protection);
+        self.judge_at(index, region, domain, base, size, wishes)
     }
 }

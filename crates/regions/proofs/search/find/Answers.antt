@@ -4,7 +4,7 @@ use mathlib.Core.Path.{sym, ◌∙◌, ap, subst}
 use mathlib.Core.Bool.{Bool, cond}
 use borrow.Author.Rules.{rules}
 use native.Mathlib.Omega.{arith}
-use Rattle.regions.specs.declared.search.Found.TheVariants.{At, Nothing}
+use Rattle.std.specs.Prelude.{Some, None}
 use Rattle.regions.proofs.Searches.{no_region_lem}
 use Rattle.regions.proofs.Halving.{Left, keep_all, half_of_these, half_of_all, rounds, begin, some_left, twice_left, halve, decides}
 use Rattle.regions.proofs.search.find.Goals as goal
@@ -78,13 +78,13 @@ returns-then-covers c =
     let i = c.loop-round in
     sym
     (decides i.invariant (omega (arith, c.loop-round-test.false))
-    ∙ ap (λ (b : Bool). cond b (At i.first) Nothing) (sym c.covers.ensures)
-    ∙ ap (λ (b : Bool). cond b (At i.first) Nothing) c.if-covers.true)
+    ∙ ap (λ (b : Bool). cond b (Some i.first) None) (sym c.covers.ensures)
+    ∙ ap (λ (b : Bool). cond b (Some i.first) None) c.if-covers.true)
 
 pub returns : goal.returns
 returns c =
     let i = c.loop-round in
     sym
     (decides i.invariant (omega (arith, c.loop-round-test.false))
-    ∙ ap (λ (b : Bool). cond b (At i.first) Nothing) (sym c.covers.ensures)
-    ∙ ap (λ (b : Bool). cond b (At i.first) Nothing) c.if-covers.false)
+    ∙ ap (λ (b : Bool). cond b (Some i.first) None) (sym c.covers.ensures)
+    ∙ ap (λ (b : Bool). cond b (Some i.first) None) c.if-covers.false)

@@ -2,7 +2,7 @@
 use mathlib.Core.Path.{◌≡◌}
 use mathlib.Core.Bool.{◌&&◌}
 use lib.Dec.{leb}
-use Rattle.model.specs.Answers.{result_of}
+use Rattle.model.specs.Checks.{passed}
 use Rattle.model.proofs.Units.{unit_pos}
 use Rattle.regions.specs.View.{regions_of}
 use Rattle.regions.specs.Entries.{entry_check}
@@ -15,7 +15,7 @@ is_whole-requires c = unit_pos c.args.self.unit c.requires.power
 
 pub returns-then-not-known : goal.returns-then-not-known
 returns-then-not-known c =
-    let ladder : let a = c.args in enters c.is_attribute-known.result (c.is_area.result && c.is_whole.result) (leb c.last_end.result a.base) ≡ result_of (entry_check a.self.unit (regions_of a.self) a.attribute a.base a.size) = let a = c.args in
+    let ladder : let a = c.args in enters c.is_attribute-known.result (c.is_area.result && c.is_whole.result) (leb c.last_end.result a.base) ≡ passed (entry_check a.self.unit (regions_of a.self) a.attribute a.base a.size) = let a = c.args in
     let p = c.is_attribute-known.ensures in
     let q = c.is_area.ensures in
     let u = c.is_whole.ensures in
@@ -25,7 +25,7 @@ returns-then-not-known c =
 
 pub returns-then-not-fits : goal.returns-then-not-fits
 returns-then-not-fits c =
-    let ladder : let a = c.args in enters c.is_attribute-known.result (c.is_area.result && c.is_whole.result) (leb c.last_end.result a.base) ≡ result_of (entry_check a.self.unit (regions_of a.self) a.attribute a.base a.size) = let a = c.args in
+    let ladder : let a = c.args in enters c.is_attribute-known.result (c.is_area.result && c.is_whole.result) (leb c.last_end.result a.base) ≡ passed (entry_check a.self.unit (regions_of a.self) a.attribute a.base a.size) = let a = c.args in
     let p = c.is_attribute-known.ensures in
     let q = c.is_area.ensures in
     let u = c.is_whole.ensures in
@@ -35,7 +35,7 @@ returns-then-not-fits c =
 
 pub returns-then-not-free : goal.returns-then-not-free
 returns-then-not-free c =
-    let ladder : let a = c.args in enters c.is_attribute-known.result (c.is_area.result && c.is_whole.result) (leb c.last_end.result a.base) ≡ result_of (entry_check a.self.unit (regions_of a.self) a.attribute a.base a.size) = let a = c.args in
+    let ladder : let a = c.args in enters c.is_attribute-known.result (c.is_area.result && c.is_whole.result) (leb c.last_end.result a.base) ≡ passed (entry_check a.self.unit (regions_of a.self) a.attribute a.base a.size) = let a = c.args in
     let p = c.is_attribute-known.ensures in
     let q = c.is_area.ensures in
     let u = c.is_whole.ensures in
@@ -46,7 +46,7 @@ returns-then-not-free c =
 
 pub returns : goal.returns
 returns c =
-    let ladder : let a = c.args in enters c.is_attribute-known.result (c.is_area.result && c.is_whole.result) (leb c.last_end.result a.base) ≡ result_of (entry_check a.self.unit (regions_of a.self) a.attribute a.base a.size) = let a = c.args in
+    let ladder : let a = c.args in enters c.is_attribute-known.result (c.is_area.result && c.is_whole.result) (leb c.last_end.result a.base) ≡ passed (entry_check a.self.unit (regions_of a.self) a.attribute a.base a.size) = let a = c.args in
     let p = c.is_attribute-known.ensures in
     let q = c.is_area.ensures in
     let u = c.is_whole.ensures in

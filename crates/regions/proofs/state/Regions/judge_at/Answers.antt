@@ -3,7 +3,7 @@ use native.Mathlib.Omega.{arith}
 use mathlib.Core.Path.{◌≡◌, ap, ◌∙◌}
 use lib.ListN.{drop}
 use mir.Facts.{to_z-of_z}
-use Rattle.model.specs.Answers.{result_of}
+use Rattle.model.specs.Checks.{passed}
 use Rattle.model.specs.Regions.{allows, judge_in}
 use Rattle.regions.specs.declared.state.RegionInfo.{RegionInfo}
 use Rattle.regions.specs.View.{regions_of, shown_as}
@@ -13,7 +13,7 @@ use Rattle.regions.proofs.state.Regions.judge_at.Goals as goal
 
 pub returns-then-not-inside : goal.returns-then-not-inside
 returns-then-not-inside c =
-    let ladder : let a = c.args in judges c.reaches-inside.result c.allows-allowed.result ≡ result_of (judge_in (drop a.index (regions_of a.self)) a.domain a.base a.size a.wishes) = let a = c.args in
+    let ladder : let a = c.args in judges c.reaches-inside.result c.allows-allowed.result ≡ passed (judge_in (drop a.index (regions_of a.self)) a.domain a.base a.size a.wishes) = let a = c.args in
     let n = count_of c.requires.held in
     let l = c.requires.low in
     let p = c.reaches-inside.ensures in
@@ -23,7 +23,7 @@ returns-then-not-inside c =
 
 pub returns-then-not-allowed : goal.returns-then-not-allowed
 returns-then-not-allowed c =
-    let ladder : let a = c.args in judges c.reaches-inside.result c.allows-allowed.result ≡ result_of (judge_in (drop a.index (regions_of a.self)) a.domain a.base a.size a.wishes) = let a = c.args in
+    let ladder : let a = c.args in judges c.reaches-inside.result c.allows-allowed.result ≡ passed (judge_in (drop a.index (regions_of a.self)) a.domain a.base a.size a.wishes) = let a = c.args in
     let n = count_of c.requires.held in
     let l = c.requires.low in
     let p = c.reaches-inside.ensures in
@@ -33,7 +33,7 @@ returns-then-not-allowed c =
 
 pub returns : goal.returns
 returns c =
-    let ladder : let a = c.args in judges c.reaches-inside.result c.allows-allowed.result ≡ result_of (judge_in (drop a.index (regions_of a.self)) a.domain a.base a.size a.wishes) = let a = c.args in
+    let ladder : let a = c.args in judges c.reaches-inside.result c.allows-allowed.result ≡ passed (judge_in (drop a.index (regions_of a.self)) a.domain a.base a.size a.wishes) = let a = c.args in
     let n = count_of c.requires.held in
     let l = c.requires.low in
     let p = c.reaches-inside.ensures in

@@ -13,5 +13,5 @@ returns c =
     let sign : let d = c.args.given.domain in to_z w32 (of_z w32 d) ≡ d = search rules in
     let a = c.args in
     let d = sign in
-    let r = rw d at c.resolve-vector.ensures in
+    let r = rw d at c.resolved-vector.ensures in
     c.add.ensures ∙ (λ i. regions_as a.self.unit (regions_of a.self ++ (record { domain = d i; attribute = a.given.attribute; base = a.given.base; size = a.given.size; vector = r i } ∷ [])))
