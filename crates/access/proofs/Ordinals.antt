@@ -3,12 +3,12 @@ use Prim.Native.Nat.{ℕ, zero, suc, ◌≤◌, ◌<◌}
 use native.Mathlib.Omega.{arith}
 use mathlib.Core.Path.{◌≡◌, refl, sym, ap}
 use mathlib.Core.Logic.{◌≢◌}
-use mathlib.Core.Bool.{Bool, true, false, cond}
+use mathlib.Core.Bool.{Bool, true, false, cond, not}
 use lib.IntN.{ℤ, pos, negsuc, nat_abs}
 use lib.Signed.{lt_z, non_neg}
-use lib.Dec.{T, leb}
-use borrow.Author.Tests.{le-leb, lt-leb, ltb-true, ltb-false, leb-true, leb-false}
-use Rattle.std.specs.Prelude.{Some, None, unwrap_or}
+use lib.Dec.{T, leb, eqb}
+use borrow.Author.Tests.{eq-eqb, ne_eqb, le-leb, lt-leb, ltb-true, ltb-false, leb-true, leb-false}
+use Rattle.std.specs.Prelude.{Some, None, unwrap_or, is_some}
 use Rattle.access.specs.Domains.{ordinal_of, numbered}
 
 -- a number below 1
@@ -47,6 +47,10 @@ numbered_none (suc k) e = absurd (let z : ◌≡◌ {A = ℕ} 0 1 = cc in omega 
 pub numbered_some : (n k : ℕ) → numbered n ≡ Some k → (k ≡ n) × (k ≢ 0)
 numbered_some zero k e = absurd (let z : ◌≡◌ {A = ℕ} 0 1 = cc in omega arith)
 numbered_some (suc j) k e = let s : suc j ≡ k = ap (λ o. unwrap_or o 0) e in (sym s, λ h. omega (arith, s, h))
+
+pub numbered_is_some : (n : ℕ) → is_some (numbered n) ≡ not (eqb n 0)
+numbered_is_some zero = sym (ap not (eq-eqb 0 0 refl))
+numbered_is_some (suc k) = sym (ap not (ne_eqb (suc k) 0 (λ e. omega arith)))
 
 pub numbered_or_0 : (n : ℕ) → unwrap_or (numbered n) 0 ≡ n
 numbered_or_0 zero = refl

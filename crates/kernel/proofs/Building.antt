@@ -10,12 +10,15 @@ use lib.ListN.{length}
 use borrow.Author.Tests.{ltb-true, leb-true, ne_eqb}
 use Rattle.access.specs.Domains.{ordinal_of}
 use Rattle.access.specs.Vectors.{Choice}
-use Rattle.itron.specs.Codes.{number_of, ok_number}
+use Rattle.std.specs.Prelude.{Result, Err as Refused, is_err}
+use Rattle.itron.specs.Codes.{number_of, ok_number, code_of}
 use Rattle.itron.specs.declared.error.Error.{Error as Err}
-use Rattle.itron.specs.declared.error.Error.TheVariants.{Sys as e_sys, Rsatr as e_rsatr, Par as e_par, Id as e_id, Ctx as e_ctx, Macv as e_macv, Oacv as e_oacv, Iluse as e_iluse, Nomem as e_nomem, Noid as e_noid, Obj as e_obj, Noexs as e_noexs, Qovr as e_qovr, Tmout as e_tmout}
+use Rattle.itron.specs.declared.error.Error.TheVariants.{Par as e_par, Id as e_id, Ctx as e_ctx, Noid as e_noid}
 use Rattle.itron.specs.Limits.{max_domains, max_tasks, max_words, min_unit}
 use Rattle.model.specs.State as Model
-use Rattle.model.specs.Answers.{result_of, refuse_if}
+use Rattle.model.specs.Answers.{refuse_if}
+use Rattle.model.specs.Checks.{passed}
+use Rattle.model.proofs.Passed.{passed_some}
 use Rattle.model.specs.Queues.{words_used}
 use Rattle.model.specs.Units.{unit_ok}
 use Rattle.model.specs.Regions.{judge}
@@ -31,46 +34,32 @@ use Rattle.kernel.specs.View.{view_of}
 use Rattle.kernel.specs.Form.{state_of}
 use Rattle.kernel.specs.Valid.{Valid}
 use Rattle.kernel.specs.Answers.{entered, entered_of}
-use Rattle.kernel.specs.Inside.{shut, first_hit}
+use Rattle.kernel.specs.Inside.{shut}
 use Rattle.kernel.specs.Promises.{Enters}
 use Rattle.kernel.proofs.Back.{enters_entry}
 
--- ---- results of checks
-not_ok : (e : Err) → number_of e ≡ ok_number → ⊥
-not_ok e_sys h = let z : ◌≡◌ {A = ℕ} 0 1 = cc in omega arith
-not_ok e_rsatr h = let z : ◌≡◌ {A = ℕ} 0 1 = cc in omega arith
-not_ok e_par h = let z : ◌≡◌ {A = ℕ} 0 1 = cc in omega arith
-not_ok e_id h = let z : ◌≡◌ {A = ℕ} 0 1 = cc in omega arith
-not_ok e_ctx h = let z : ◌≡◌ {A = ℕ} 0 1 = cc in omega arith
-not_ok e_macv h = let z : ◌≡◌ {A = ℕ} 0 1 = cc in omega arith
-not_ok e_oacv h = let z : ◌≡◌ {A = ℕ} 0 1 = cc in omega arith
-not_ok e_iluse h = let z : ◌≡◌ {A = ℕ} 0 1 = cc in omega arith
-not_ok e_nomem h = let z : ◌≡◌ {A = ℕ} 0 1 = cc in omega arith
-not_ok e_noid h = let z : ◌≡◌ {A = ℕ} 0 1 = cc in omega arith
-not_ok e_obj h = let z : ◌≡◌ {A = ℕ} 0 1 = cc in omega arith
-not_ok e_noexs h = let z : ◌≡◌ {A = ℕ} 0 1 = cc in omega arith
-not_ok e_qovr h = let z : ◌≡◌ {A = ℕ} 0 1 = cc in omega arith
-not_ok e_tmout h = let z : ◌≡◌ {A = ℕ} 0 1 = cc in omega arith
+-- ---- steps 1 to 3 of an entry's checks, then its own
+module _ (c r d : Bool) (own : Option Err) where
+  abbrev then_own : Option Err → Option Err
+  then_own o = refuse_if c e_ctx (refuse_if r e_noid (refuse_if d e_id o))
 
-pub passed_none : (o : Option Err) (z : ℤ) → z ≡ result_of o → z ≡ ok_number → o ≡ none
-passed_none none z e h = refl
-passed_none (some x) z e h = absurd (not_ok x (sym e ∙ h))
+  pub opening_refuses : {e : Err} → then_own none ≡ some e → then_own own ≡ some e
+  opening_refuses {e} h = go c r d h
+    where
+      go : (c r d : Bool) → refuse_if c e_ctx (refuse_if r e_noid (refuse_if d e_id none)) ≡ some e → refuse_if c e_ctx (refuse_if r e_noid (refuse_if d e_id own)) ≡ some e
+      go true r d h = h
+      go false true d h = h
+      go false false true h = h
+      go false false false h = absurd (let z : ◌≡◌ {A = ℕ} 0 1 = cc in omega arith)
 
--- of two codes of checks the first that refuses
-pub hit_first : (z w : ℤ) → (z ≡ ok_number → ⊥) → z ≡ first_hit z w
-hit_first (pos zero) w h = absurd (h refl)
-hit_first (pos (suc n)) w h = refl
-hit_first (negsuc n) w h = refl
-
-pub hit_second : (z w : ℤ) → z ≡ ok_number → w ≡ first_hit z w
-hit_second z w h = ap (λ (x : ℤ). first_hit x w) (sym h)
-
--- steps 1 to 3, then an entry's own checks
-pub opening_then : (c r d : Bool) (own : Option Err) → first_hit (result_of (refuse_if c e_ctx (refuse_if r e_noid (refuse_if d e_id none)))) (result_of own) ≡ result_of (refuse_if c e_ctx (refuse_if r e_noid (refuse_if d e_id own)))
-opening_then true r d own = refl
-opening_then false true d own = refl
-opening_then false false true own = refl
-opening_then false false false own = refl
+  pub opening_passes : then_own none ≡ none → own ≡ then_own own
+  opening_passes h = go c r d h
+    where
+      go : (c r d : Bool) → refuse_if c e_ctx (refuse_if r e_noid (refuse_if d e_id none)) ≡ none → own ≡ refuse_if c e_ctx (refuse_if r e_noid (refuse_if d e_id own))
+      go true r d h = absurd (let z : ◌≡◌ {A = ℕ} 0 1 = cc in omega arith)
+      go false true d h = absurd (let z : ◌≡◌ {A = ℕ} 0 1 = cc in omega arith)
+      go false false true h = absurd (let z : ◌≡◌ {A = ℕ} 0 1 = cc in omega arith)
+      go false false false h = refl
 
 -- ---- domains
 pub owns_kernel : (n : ℕ) (z : ℤ) → z ≡ negsuc 0 → true ≡ owns_task n z
@@ -128,13 +117,13 @@ fresh_taken (negsuc k) unit h = absurd (no_both h refl)
 -- ---- entries and closing
 module _ {s : State} (v : Valid s) where
   -- an entry that its checks refuse, and one that they take: x is the state with what was entered
-  pub refuses_entry : (i : Entry) (z : ℤ) → z ≡ result_of (check_entry (view_of s) i) → (z ≡ ok_number → ⊥) → {r : Entered} → r ≡ entered z s → Enters s (enter (view_of s) i) r
+  pub refuses_entry : (i : Entry) {k : Result Unit Err} → k ≡ passed (check_entry (view_of s) i) → is_err k ≡ true → {r : Entered} → r ≡ entered (code_of k) s → Enters s (enter (view_of s) i) r
   unfolding enter
-  refuses_entry i z e h q = enters_entry v i (q ∙ go (check_entry (view_of s) i) e)
-    where
-      go : (o : Option Err) → z ≡ result_of o → entered z s ≡ entered_of (enter_by (view_of s) i o)
-      go none q = absurd (h q)
-      go (some x) q = let f = v.form in λ j. entered (q j) (f j)
+  refuses_entry i {k} h f q =
+      let x = passed_some (check_entry (view_of s) i) h f in
+      let o = x.1 in
+      let form = v.form in
+      enters_entry v i (q ∙ (λ j. entered (code_of ((h ∙ ap passed o) j)) (form j)) ∙ ap (λ (o : Option Err). entered_of (enter_by (view_of s) i o)) (sym o))
 
   pub takes_entry : (i : Entry) → check_entry (view_of s) i ≡ none → {x : State} → x ≡ state_of (add (view_of s) i) → {r : Entered} → r ≡ entered ok_number x → Enters s (enter (view_of s) i) r
   unfolding enter
@@ -173,14 +162,14 @@ module _ (m : Model.State) where
 
 -- ---- the verdict's first checks
 module _ (s : State) (d : ℤ) (base size w : ℕ) where
-  pub verdict_ctx : s.closed ≡ false → number_of e_ctx ≡ result_of (verdict (view_of s) d base size w)
+  pub verdict_ctx : s.closed ≡ false → Refused e_ctx ≡ passed (verdict (view_of s) d base size w)
   unfolding verdict
   verdict_ctx h = rw h
 
-  pub verdict_id : s.closed ≡ true → owns_task s.domains d ≡ false → number_of e_id ≡ result_of (verdict (view_of s) d base size w)
+  pub verdict_id : s.closed ≡ true → owns_task s.domains d ≡ false → Refused e_id ≡ passed (verdict (view_of s) d base size w)
   unfolding verdict
   verdict_id h o = rw (h, o)
 
-  pub verdict_judged : s.closed ≡ true → owns_task s.domains d ≡ true → result_of (judge (view_of s).fixed.regions d base size w) ≡ result_of (verdict (view_of s) d base size w)
+  pub verdict_judged : s.closed ≡ true → owns_task s.domains d ≡ true → passed (judge (view_of s).fixed.regions d base size w) ≡ passed (verdict (view_of s) d base size w)
   unfolding verdict
   verdict_judged h o = rw (h, o)

@@ -4,16 +4,12 @@ use native.Mathlib.Omega.{arith}
 use mathlib.Core.Path.{◌≡◌, refl, sym, ap, ◌∙◌}
 use mathlib.Core.Logic.{◌≢◌}
 use mathlib.Core.Bool.{Bool, true, false, cond, not, ◌&&◌}
-use mathlib.Core.List.{[], ◌∷◌}
 use mathlib.Core.Option.{Option, none, some}
 use lib.Dec.{leb}
 use lib.IntN.{ℤ}
 use lib.ListN.{length}
-use types.Run.{OneOf}
-use denote.Enum.Declared.{tag_of}
 use Rattle.access.specs.Domains.{running_of}
 use Rattle.access.specs.Vectors.{pattern_of}
-use Rattle.itron.specs.Codes.{number_of}
 use Rattle.itron.specs.declared.error.Error.{Error as Err}
 use Rattle.itron.specs.declared.error.Error.TheVariants.{Ctx as e_ctx, Id as e_id, Par as e_par, Noexs as e_noexs, Oacv as e_oacv}
 use Rattle.model.specs.Lists.{index}
@@ -26,43 +22,38 @@ use Rattle.model.specs.Checks.{target_in, checked}
 use Rattle.model.specs.Waits.{absent}
 use Rattle.model.proofs.Lists.{and_right, no_both, both}
 use Rattle.model.proofs.Rooms.{calls_of, passed}
-use Rattle.model.specs.declared.check.Check.{Check}
-use Rattle.model.specs.declared.check.Check.TheVariants.{Refused, Admitted}
+use Rattle.std.specs.Prelude.{Option as Optional, Some, None, Result, Ok, Err as Refused, unwrap_or}
+use Rattle.model.specs.declared.check.Admitted.{Admitted}
 use Rattle.model.specs.declared.check.Target.{Target}
-use Rattle.model.specs.declared.check.Target.TheVariants.{OutOfRange, Missing, At}
 use Rattle.tasks.specs.declared.wait.Caller.{Caller}
-use Rattle.model.specs.contracts.check.Target.{the_type as target_type}
-use Rattle.tasks.specs.contracts.wait.Caller.{the_type as caller_type}
 use Rattle.tasks.specs.Held.{Free, Passed}
 use Rattle.kernel.specs.declared.state.State.{State}
 use Rattle.kernel.specs.View.{view_of}
 use Rattle.kernel.specs.Inside.{caller_in, checked_by, check_of}
 
-pub nobody : (w : Caller) → OneOf (0 ∷ []) (tag_of caller_type w) → w ≡ Caller.Nobody
-nobody Caller.Nobody t = refl
-nobody (Caller.Ready n d) t = absurd (omega arith)
+-- who calls, and what is admitted, in the program's words
+abbrev pub calls_as : ℕ → ℤ → Optional Caller
+calls_as t d = Some (record { task = t; domain = d })
 
-pub is_out : (x : Target) → OneOf (0 ∷ []) (tag_of target_type x) → x ≡ OutOfRange
-is_out OutOfRange t = refl
-is_out Missing t = absurd (omega arith)
-is_out (At n v) t = absurd (omega arith)
+abbrev pub admits_as : ℕ → ℕ → Result Admitted Err
+admits_as t n = Ok (record { task = t; object = n })
 
-pub is_missing : (x : Target) → OneOf (1 ∷ []) (tag_of target_type x) → x ≡ Missing
-is_missing OutOfRange t = absurd (omega arith)
-is_missing Missing t = refl
-is_missing (At n v) t = absurd (omega arith)
+calls_same : {t u : ℕ} {d e : ℤ} → calls_as t d ≡ calls_as u e → (t ≡ u) × (d ≡ e)
+calls_same {t} {u} {d} {e} h =
+    let f : Optional Caller → Caller = λ o. unwrap_or o (record { task = t; domain = d }) in
+    (ap (λ o. (f o).task) h, ap (λ o. (f o).domain) h)
 
 -- ---- who calls, which object, and whether the caller may: the checks of a call that must meet nothing besides
 module _ {C R : Type 0} (r : Room C R) (m : Model.State) (t n : ℕ) (a : Act C) where
   abbrev may : Bool
   may = admits (running_at m t) (pattern_of (vector_at r m n) (operation_of r.operation a))
 
-  by_may : (b : Bool) → cond b (Admitted (index t) (index n)) (Refused (number_of e_oacv)) ≡ checked (refuse_if (not b) e_oacv none) t n
+  by_may : (b : Bool) → cond b (admits_as (index t) (index n)) (Refused e_oacv) ≡ checked (refuse_if (not b) e_oacv none) t n
   by_may true = refl
   by_may false = refl
 
   by_tests : (ready here there : Bool)
-      → checked_by (cond ready (Caller.Ready (index t) (running_at m t)) Caller.Nobody) (operation_of r.operation a) (cond here (cond there (At (index n) (vector_at r m n)) Missing) OutOfRange)
+      → checked_by (cond ready (calls_as (index t) (running_at m t)) None) (operation_of r.operation a) (cond here (cond there (Ok (record { object = index n; vector = vector_at r m n })) (Refused e_noexs)) (Refused e_id))
       ≡ checked (refuse_if (not ready) e_ctx (refuse_if (not here) e_id (refuse_if (not there) e_noexs (refuse_if (not may) e_oacv none)))) t n
   by_tests false here there = refl
   by_tests true false there = refl
@@ -103,68 +94,72 @@ module _ (m : Model.State) (t : ℕ) where
       let l = k.known in
       record { may = h; names = e; low = omega arith }
 
-  pub called : (task : ℕ) {d : ℤ} → caller_in m t ≡ Caller.Ready task d → Called task
+  pub called : (task : ℕ) {d : ℤ} → caller_in m t ≡ calls_as task d → Called task
   called task {d} h = go (m.fixed.closed && ready m t) refl h
     where
-      go : (b : Bool) → m.fixed.closed && ready m t ≡ b → cond b (Caller.Ready (index t) (running_at m t)) Caller.Nobody ≡ Caller.Ready task d → Called task
-      go true e q = called_by task e (cc)
+      go : (b : Bool) → m.fixed.closed && ready m t ≡ b → cond b (calls_as (index t) (running_at m t)) None ≡ calls_as task d → Called task
+      go true e q = called_by task e (calls_same q).0
       go false e q = absurd (let z : ◌≡◌ {A = ℕ} 0 1 = cc in omega arith)
 
-  pub uncalled : caller_in m t ≡ Caller.Nobody → m.fixed.closed && ready m t ≡ false
+  pub uncalled : caller_in m t ≡ None → m.fixed.closed && ready m t ≡ false
   uncalled h = go (m.fixed.closed && ready m t) refl h
     where
-      go : (b : Bool) → m.fixed.closed && ready m t ≡ b → cond b (Caller.Ready (index t) (running_at m t)) Caller.Nobody ≡ Caller.Nobody → m.fixed.closed && ready m t ≡ false
+      go : (b : Bool) → m.fixed.closed && ready m t ≡ b → cond b (calls_as (index t) (running_at m t)) None ≡ None → m.fixed.closed && ready m t ≡ false
       go true e q = absurd (let z : ◌≡◌ {A = ℕ} 0 1 = cc in omega arith)
       go false e q = e
 
   -- who calls, as the tasks name it: with its own domain
-  abbrev pub owned : Caller
-  owned = cond (ready m t) (Caller.Ready (index t) (domain_at m t)) Caller.Nobody
+  abbrev pub owned : Optional Caller
+  owned = cond (ready m t) (calls_as (index t) (domain_at m t)) None
 
   -- of a closed table
   module _ (c : m.fixed.closed ≡ true) where
-    pub nobody_calls : owned ≡ Caller.Nobody → Caller.Nobody ≡ caller_in m t
-    nobody_calls h = go (ready m t) h ∙ ap (λ (b : Bool). cond (b && ready m t) (Caller.Ready (index t) (running_at m t)) Caller.Nobody) (sym c)
+    pub nobody_calls : owned ≡ None → None ≡ caller_in m t
+    nobody_calls h = go (ready m t) h ∙ ap (λ (b : Bool). cond (b && ready m t) (calls_as (index t) (running_at m t)) None) (sym c)
       where
-        go : (b : Bool) → cond b (Caller.Ready (index t) (domain_at m t)) Caller.Nobody ≡ Caller.Nobody → Caller.Nobody ≡ cond b (Caller.Ready (index t) (running_at m t)) Caller.Nobody
+        go : (b : Bool) → cond b (calls_as (index t) (domain_at m t)) None ≡ None → None ≡ cond b (calls_as (index t) (running_at m t)) None
         go true q = absurd (let z : ◌≡◌ {A = ℕ} 0 1 = cc in omega arith)
         go false q = refl
 
     -- a registered task
-    pub known_caller : (task : ℕ) {d : ℤ} → owned ≡ Caller.Ready task d → Called task
+    pub known_caller : (task : ℕ) {d : ℤ} → owned ≡ calls_as task d → Called task
     known_caller task {d} h = go (ready m t) refl h
       where
-        go : (b : Bool) → ready m t ≡ b → cond b (Caller.Ready (index t) (domain_at m t)) Caller.Nobody ≡ Caller.Ready task d → Called task
-        go true e q = called_by task (both c e) (cc)
+        go : (b : Bool) → ready m t ≡ b → cond b (calls_as (index t) (domain_at m t)) None ≡ calls_as task d → Called task
+        go true e q = called_by task (both c e) (calls_same q).0
         go false e q = absurd (let z : ◌≡◌ {A = ℕ} 0 1 = cc in omega arith)
 
-    pub runs_as : (task : ℕ) {d : ℤ} (k : ℕ) → owned ≡ Caller.Ready task d → k ≡ level_at m (suc task) → Caller.Ready task (running_of d k) ≡ caller_in m t
+    pub runs_as : (task : ℕ) {d : ℤ} (k : ℕ) → owned ≡ calls_as task d → k ≡ level_at m (suc task) → calls_as task (running_of d k) ≡ caller_in m t
     runs_as task {d} k h e =
         let n = known_caller task h in
         let l : k ≡ level_at m t = e ∙ ap (level_at m) (sym n.names) in
-        go (m.fixed.closed && ready m t) n.may l (ap (λ (b : Bool). cond b (Caller.Ready (index t) (domain_at m t)) Caller.Nobody) (sym (and_right m.fixed.closed (ready m t) n.may)) ∙ h)
+        go (m.fixed.closed && ready m t) n.may l (ap (λ (b : Bool). cond b (calls_as (index t) (domain_at m t)) None) (sym (and_right m.fixed.closed (ready m t) n.may)) ∙ h)
       where
-        go : (b : Bool) → b ≡ true → k ≡ level_at m t → Caller.Ready (index t) (domain_at m t) ≡ Caller.Ready task d → Caller.Ready task (running_of d k) ≡ cond b (Caller.Ready (index t) (running_at m t)) Caller.Nobody
+        go : (b : Bool) → b ≡ true → k ≡ level_at m t → calls_as (index t) (domain_at m t) ≡ calls_as task d → calls_as task (running_of d k) ≡ cond b (calls_as (index t) (running_at m t)) None
         go true y l q =
-            let i : task ≡ index t = cc in
-            let j : d ≡ domain_at m t = cc in
-            λ x. Caller.Ready (i x) (running_of (j x) (l x))
+            let same = calls_same q in
+            let i = sym same.0 in
+            let j = sym same.1 in
+            λ x. calls_as (i x) (running_of (j x) (l x))
         go false y l q = absurd (no_both y refl)
 
 -- ---- what the checks found
+abbrev refused_or : Result Admitted Err → Err → Err
+refused_or (Refused e) d = e
+refused_or (Ok x) d = d
+
+abbrev admitted_or : Result Admitted Err → Admitted → Admitted
+admitted_or (Ok x) y = x
+admitted_or (Refused e) y = y
+
 module _ {C R : Type 0} (r : Room C R) (s : State) (z n : ℤ) (a : Act C) where
   -- a call that they refuse: the model's answer is that refusal
-  pub record Refusal (code : ℤ) : Type 0 where
-    pub err : Err
-    pub number : code ≡ number_of err
-    pub found : check r (view_of s) (no z) (no n) a ≡ some err
-
-  pub refusal : (code : ℤ) → check_of r s z n a ≡ Refused code → Refusal code
-  refusal code e = go (check r (view_of s) (no z) (no n) a) refl e
+  pub refusal : (e : Err) → check_of r s z n a ≡ Refused e → check r (view_of s) (no z) (no n) a ≡ some e
+  refusal e h = go (check r (view_of s) (no z) (no n) a) h
     where
-      go : (o : Option Err) → check r (view_of s) (no z) (no n) a ≡ o → checked o (no z) (no n) ≡ Refused code → Refusal code
-      go (some x) h q = record { err = x; number = cc; found = h }
-      go none h q = absurd (let z : ◌≡◌ {A = ℕ} 0 1 = cc in omega arith)
+      go : (o : Option Err) → checked o (no z) (no n) ≡ Refused e → o ≡ some e
+      go (some x) q = ap (λ (k : Result Admitted Err). some (refused_or k x)) q
+      go none q = absurd (let z : ◌≡◌ {A = ℕ} 0 1 = cc in omega arith)
 
   -- a call that they admit: who calls is ready, and the object is there
   pub record Admission (t o : ℕ) : Type 0 where
@@ -174,15 +169,16 @@ module _ {C R : Type 0} (r : Room C R) (s : State) (z n : ℤ) (a : Act C) where
     pub object : no n ≡ suc o
     pub found : check r (view_of s) (no z) (no n) a ≡ none
 
-  pub admission : (t o : ℕ) → check_of r s z n a ≡ Admitted t o → Admission t o
+  pub admission : (t o : ℕ) → check_of r s z n a ≡ admits_as t o → Admission t o
   admission t o e = go (check r (view_of s) (no z) (no n) a) refl e
     where
-      go : (x : Option Err) → check r (view_of s) (no z) (no n) a ≡ x → checked x (no z) (no n) ≡ Admitted t o → Admission t o
+      go : (x : Option Err) → check r (view_of s) (no z) (no n) a ≡ x → checked x (no z) (no n) ≡ admits_as t o → Admission t o
       go (some x) c q = absurd (let z : ◌≡◌ {A = ℕ} 0 1 = cc in omega arith)
       go none c q =
           let p = passed r (view_of s) (no z) (no n) a c in
-          let i : index (no z) ≡ t = cc in
-          let j : index (no n) ≡ o = cc in
+          let f : Result Admitted Err → Admitted = λ x. admitted_or x (record { task = t; object = o }) in
+          let i : index (no z) ≡ t = ap (λ x. (f x).task) q in
+          let j : index (no n) ≡ o = ap (λ x. (f x).object) q in
           let b : no z ≡ suc t = number (no z) p.calls.caller ∙ ap suc i in
           let d : no n ≡ suc o = number (no n) p.numbered ∙ ap suc j in
           let k = p.calls.known in
@@ -196,5 +192,5 @@ module _ {C R : Type 0} (r : Room C R) (s : State) (z n : ℤ) (a : Act C) where
           }
 
   -- what an effect may take for granted of what they found
-  pub passes : {k : Check} → check_of r s z n a ≡ k → Passed s.tasks (length (r.records (view_of s))) k
-  passes h = record { free = λ t o e. (admission t o (h ∙ e)).free; there = λ t o e. (admission t o (h ∙ e)).there }
+  pub passes : {k : Result Admitted Err} → check_of r s z n a ≡ k → Passed s.tasks (length (r.records (view_of s))) k
+  passes h = record { free = λ x e. (admission x.task x.object (h ∙ e)).free; there = λ x e. (admission x.task x.object (h ∙ e)).there }

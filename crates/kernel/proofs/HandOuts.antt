@@ -1,65 +1,59 @@
 -- Handing out the bytes: its checks, one after the other, as the code makes them. Assumes nothing.
 use mathlib.Core.Path.{◌≡◌, refl, sym, ap, ◌∙◌}
-use mathlib.Core.Logic.{◌≢◌}
 use mathlib.Core.Bool.{Bool, true, false, not}
 use mathlib.Core.List.{[]}
 use mathlib.Core.Option.{Option, none, some}
 use Prim.Native.Nat.{ℕ}
 use lib.IntN.{ℤ}
-use Rattle.itron.specs.Codes.{number_of, ok_number}
+use Rattle.std.specs.Prelude.{Result, Ok, Err as Refused, is_err}
 use Rattle.itron.specs.declared.error.Error.{Error as Err}
 use Rattle.itron.specs.declared.error.Error.TheVariants.{Ctx as e_ctx, Par as e_par, Noexs as e_noexs}
-use Rattle.model.specs.Answers.{refuse_if, result_of}
+use Rattle.model.specs.Answers.{refuse_if}
+use Rattle.model.specs.Checks.{passed}
+use Rattle.model.proofs.Passed.{passed_ok, passed_none, passed_err, passed_some}
 use Rattle.model.specs.Verdict.{verdict}
 use Rattle.model.specs.Images.{Image, images_ok, holder, is_held, read_alone, once_allowed, hand_out, part_of, unless_refused, handed_bytes}
 use Rattle.kernel.specs.declared.state.State.{State}
 use Rattle.kernel.specs.View.{view_of}
-use Rattle.kernel.proofs.Building.{passed_none}
-
-refusal_first : (o r : Option Err) → result_of o ≢ ok_number → result_of o ≡ result_of (once_allowed o r)
-refusal_first none r h = absurd (h refl)
-refusal_first (some e) r h = refl
 
 module _ (s : State) (d : ℤ) (base size : ℕ) (flash ram : Image) where
-  pub out_ctx : s.closed ≡ false → number_of e_ctx ≡ result_of (hand_out (view_of s) d base size flash ram)
+  pub out_ctx : s.closed ≡ false → Refused e_ctx ≡ passed (hand_out (view_of s) d base size flash ram)
   unfolding hand_out
   out_ctx h = rw h
 
   module _ (c : s.closed ≡ true) where
-    pub out_par : images_ok flash ram ≡ false → number_of e_par ≡ result_of (hand_out (view_of s) d base size flash ram)
+    pub out_par : images_ok flash ram ≡ false → Refused e_par ≡ passed (hand_out (view_of s) d base size flash ram)
     unfolding hand_out
-    out_par k = λ i. result_of (refuse_if (not (sym c i)) e_ctx (refuse_if (not (sym k i)) e_par (once_allowed (verdict (view_of s) d base size read_alone) (refuse_if (not (is_held (holder flash ram base size))) e_noexs none))))
+    out_par k = λ i. passed (refuse_if (not (sym c i)) e_ctx (refuse_if (not (sym k i)) e_par (once_allowed (verdict (view_of s) d base size read_alone) (refuse_if (not (is_held (holder flash ram base size))) e_noexs none))))
 
     module _ (k : images_ok flash ram ≡ true) where
       lent : once_allowed (verdict (view_of s) d base size read_alone) (refuse_if (not (is_held (holder flash ram base size))) e_noexs none) ≡ hand_out (view_of s) d base size flash ram
       unfolding hand_out
       lent = λ i. refuse_if (not (sym c i)) e_ctx (refuse_if (not (sym k i)) e_par (once_allowed (verdict (view_of s) d base size read_alone) (refuse_if (not (is_held (holder flash ram base size))) e_noexs none)))
 
-      -- z is the verdict's code
-      module _ (z : ℤ) (v : z ≡ result_of (verdict (view_of s) d base size read_alone)) where
-        pub out_refused : z ≢ ok_number → z ≡ result_of (hand_out (view_of s) d base size flash ram)
-        out_refused h = v ∙ refusal_first (verdict (view_of s) d base size read_alone) (refuse_if (not (is_held (holder flash ram base size))) e_noexs none) (λ e. h (v ∙ e)) ∙ ap result_of lent
+      -- the verdict refuses
+      pub out_refused : {e : Err} → passed (verdict (view_of s) d base size read_alone) ≡ Refused e → Refused e ≡ passed (hand_out (view_of s) d base size flash ram)
+      out_refused {e} h =
+          ap (λ (o : Option Err). passed (once_allowed o (refuse_if (not (is_held (holder flash ram base size))) e_noexs none))) (sym (passed_err (verdict (view_of s) d base size read_alone) h)) ∙ ap passed lent
 
-        module _ (h : z ≡ ok_number) where
-          allowed : (b : Bool) → is_held (holder flash ram base size) ≡ b → refuse_if (not b) e_noexs none ≡ hand_out (view_of s) d base size flash ram
-          allowed b e = (let n = passed_none (verdict (view_of s) d base size read_alone) z v h in λ i. once_allowed (sym n i) (refuse_if (not (sym e i)) e_noexs none)) ∙ lent
+      -- it allows
+      module _ (h : passed (verdict (view_of s) d base size read_alone) ≡ Ok tt) where
+        allowed : (b : Bool) → is_held (holder flash ram base size) ≡ b → refuse_if (not b) e_noexs none ≡ hand_out (view_of s) d base size flash ram
+        allowed b e = (let n = passed_ok (verdict (view_of s) d base size read_alone) h in λ i. once_allowed (sym n i) (refuse_if (not (sym e i)) e_noexs none)) ∙ lent
 
-          pub out_noexs : is_held (holder flash ram base size) ≡ false → number_of e_noexs ≡ result_of (hand_out (view_of s) d base size flash ram)
-          out_noexs e = ap result_of (allowed false e)
+        pub out_noexs : is_held (holder flash ram base size) ≡ false → Refused e_noexs ≡ passed (hand_out (view_of s) d base size flash ram)
+        out_noexs e = ap passed (allowed false e)
 
-          pub out_ok : is_held (holder flash ram base size) ≡ true → ok_number ≡ result_of (hand_out (view_of s) d base size flash ram)
-          out_ok e = ap result_of (allowed true e)
+        pub out_ok : is_held (holder flash ram base size) ≡ true → Ok tt ≡ passed (hand_out (view_of s) d base size flash ram)
+        out_ok e = ap passed (allowed true e)
 
-  -- the bytes, by the code z of the same inputs
-  module _ (z : ℤ) (e : z ≡ result_of (hand_out (view_of s) d base size flash ram)) where
-    pub part_refused : z ≢ ok_number → [] ≡ handed_bytes (view_of s) d base size flash ram
+  -- the bytes, by what the same inputs' checks give
+  module _ {k : Result Unit Err} (e : k ≡ passed (hand_out (view_of s) d base size flash ram)) where
+    pub part_refused : is_err k ≡ true → [] ≡ handed_bytes (view_of s) d base size flash ram
     unfolding handed_bytes
-    part_refused h = none_of (hand_out (view_of s) d base size flash ram) (λ k. h (e ∙ k))
-      where
-        none_of : (o : Option Err) → result_of o ≢ ok_number → [] ≡ unless_refused o (part_of (holder flash ram base size) base size)
-        none_of none f = absurd (f refl)
-        none_of (some x) f = refl
+    part_refused h =
+        ap (λ (o : Option Err). unless_refused o (part_of (holder flash ram base size) base size)) (sym (passed_some (hand_out (view_of s) d base size flash ram) e h).1)
 
-    pub part_ok : z ≡ ok_number → part_of (holder flash ram base size) base size ≡ handed_bytes (view_of s) d base size flash ram
+    pub part_ok : is_err k ≡ false → part_of (holder flash ram base size) base size ≡ handed_bytes (view_of s) d base size flash ram
     unfolding handed_bytes
-    part_ok h = ap (λ (o : Option Err). unless_refused o (part_of (holder flash ram base size) base size)) (sym (passed_none (hand_out (view_of s) d base size flash ram) z e h))
+    part_ok h = ap (λ (o : Option Err). unless_refused o (part_of (holder flash ram base size) base size)) (sym (passed_none (hand_out (view_of s) d base size flash ram) e h))

@@ -16,9 +16,9 @@ use Rattle.model.specs.Answers.{Out, plain, no_info, refuse_if}
 use Rattle.model.specs.ExtendedCalls.{level_check, level_after, check, of_level}
 use Rattle.model.specs.Calls.{call, on_level, act_if, step}
 use Rattle.model.specs.declared.svc.ExtendedCall.{ExtendedCall}
-use Rattle.tasks.specs.declared.wait.Caller.TheVariants as Caller
+use Rattle.std.specs.Prelude.{Some, None, Result, Ok, Err as Refused}
+use Rattle.tasks.specs.declared.wait.Caller.{Caller}
 use Rattle.levels.specs.declared.state.Levels.{Levels}
-use Rattle.levels.specs.declared.call.Effect.{Effect}
 use Rattle.levels.specs.Form.{levels_as, with_level}
 use Rattle.levels.specs.Effects.{acted_by, acted}
 use Rattle.levels.proofs.Back.{with_form, get_seen}
@@ -27,10 +27,10 @@ use Rattle.kernel.specs.declared.state.Answer.{Answer}
 use Rattle.kernel.specs.View.{view_of}
 use Rattle.kernel.specs.Valid.{Valid}
 use Rattle.kernel.specs.Answers.{answered, answer_of}
-use Rattle.kernel.specs.Inside.{with_levels, caller_in, levels_given}
+use Rattle.kernel.specs.Inside.{with_levels, caller_in, levels_given, levels_answered}
 use Rattle.kernel.specs.Promises.{Does}
 use Rattle.kernel.proofs.Back.{promise}
-use Rattle.kernel.proofs.Checks.{Called, called, uncalled}
+use Rattle.kernel.proofs.Checks.{calls_as, Called, called, uncalled}
 
 -- the level of a registered task
 pub level_seen : (s : State) (t : ℕ) → t < length (view_of s).fixed.tasks → get_or s.levels.entries t 0 ≡ level_at (view_of s) (suc t)
@@ -56,13 +56,12 @@ module _ {s : State} (v : Valid s) where
     abbrev by : Option Err → Out
     by o = act_if (view_of s) (no z) (of_level c) o
 
-    pub level_nobody : caller_in (view_of s) (no z) ≡ Caller.Nobody → record { code = number_of e_ctx; levels = s.levels } ≡ levels_given (step (view_of s) (call z (on_level c)))
+    pub level_nobody : caller_in (view_of s) (no z) ≡ None → ◌≡◌ {A = Result Levels Err} (Refused e_ctx) (levels_given (step (view_of s) (call z (on_level c))))
     unfolding step check
     level_nobody h =
-        ap (λ (x : Levels). record { code = number_of e_ctx; levels = x }) levels_held
-        ∙ ap (λ (b : Bool). levels_given (by (refuse_if (not b) e_ctx (level_check c (level_at (view_of s) (no z)))))) (sym (uncalled (view_of s) (no z) h))
+        ap (λ (b : Bool). levels_given (by (refuse_if (not b) e_ctx (level_check c (level_at (view_of s) (no z)))))) (sym (uncalled (view_of s) (no z) h))
 
-    pub level_acts : (task : ℕ) {d : ℤ} → caller_in (view_of s) (no z) ≡ Caller.Ready task d → acted s.levels task c ≡ levels_given (step (view_of s) (call z (on_level c)))
+    pub level_acts : (task : ℕ) {d : ℤ} → caller_in (view_of s) (no z) ≡ calls_as task d → acted s.levels task c ≡ levels_given (step (view_of s) (call z (on_level c)))
     unfolding step check
     level_acts task h =
         ap (λ (k : ℕ). acted_by s.levels task (level_check c k) (level_after c k)) (level_seen s task n.low ∙ ap (level_at (view_of s)) (sym n.names))
@@ -76,14 +75,14 @@ module _ {s : State} (v : Valid s) where
         k = level_after c (level_at (view_of s) (no z))
 
         go : (o : Option Err) → acted_by s.levels task o k ≡ levels_given (by o)
-        go (some e) = ap (λ (x : Levels). record { code = number_of e; levels = x }) levels_held
-        go none = ap (λ (x : Levels). record { code = ok_number; levels = x }) (with_seen task k n.low ∙ ap (λ (t : ℕ). levels_as (put (view_of s).levels t k)) (sym n.names))
+        go (some e) = refl
+        go none = ap (λ (x : Levels). Ok x) (with_seen task k n.low ∙ ap (λ (t : ℕ). levels_as (put (view_of s).levels t k)) (sym n.names))
 
     -- ---- the whole promise
-    pub on_levels : {x : Effect} {r : Answer} → x ≡ levels_given (step (view_of s) (call z (on_level c))) → r ≡ answered (plain x.code 0) no_info (with_levels s x.levels) → Does s (call z (on_level c)) r
+    pub on_levels : {x : Result Levels Err} {r : Answer} → x ≡ levels_given (step (view_of s) (call z (on_level c))) → r ≡ levels_answered s x → Does s (call z (on_level c)) r
     unfolding step
-    on_levels e q = promise v (call z (on_level c)) (q ∙ ap (λ (x : Effect). answered (plain x.code 0) no_info (with_levels s x.levels)) e ∙ go (check (view_of s) (no z) c))
+    on_levels e q = promise v (call z (on_level c)) (q ∙ ap (levels_answered s) e ∙ go (check (view_of s) (no z) c))
       where
-        go : (o : Option Err) → answered (plain (levels_given (by o)).code 0) no_info (with_levels s (levels_given (by o)).levels) ≡ answer_of (by o)
-        go (some x) = ap (λ (y : State). answered (plain (number_of x) 0) no_info (with_levels y (levels_as (view_of s).levels))) v.form
-        go none = ap (λ (y : State). answered (plain ok_number 0) no_info (with_levels y (levels_given (by none)).levels)) v.form
+        go : (o : Option Err) → levels_answered s (levels_given (by o)) ≡ answer_of (by o)
+        go (some x) = ap (answered (plain (number_of x) 0) no_info) v.form
+        go none = ap (λ (y : State). answered (plain ok_number 0) no_info (with_levels y (levels_as (by none).state.levels))) v.form

@@ -1,16 +1,16 @@
 -- What the kernel's private functions give; no promise cites it. Definitions only.
-use Rattle.std.specs.Prelude.{ℕ, zero, suc, Bool, true, cond, not, ◌&&◌, ltb, ℤ, pos, negsuc}
+use Rattle.std.specs.Prelude.{ℕ, Bool, true, cond, not, ◌&&◌, ltb, ℤ, Option as Optional, Some, None, Result, Ok, Err as Refused}
 use Rattle.std.proofs.Math.Option.{Option, none}
 use Rattle.access.specs.Patterns.{admitted}
 use Rattle.access.specs.Vectors.{pattern_of}
 use Rattle.access.specs.declared.vector.Operation.{Operation}
-use Rattle.itron.specs.Codes.{number_of}
+use Rattle.itron.specs.Codes.{Code, ok, waiting, error, ok_number, number_of}
 use Rattle.itron.specs.declared.error.Error.{Error as Err}
 use Rattle.itron.specs.declared.error.Error.TheVariants.{Ctx as e_ctx, Noid as e_noid, Id as e_id, Noexs as e_noexs, Oacv as e_oacv}
 use Rattle.model.specs.Lists.{index}
 use Rattle.model.specs.State as Model
 use Rattle.model.specs.State.{running_at, no}
-use Rattle.model.specs.Answers.{Out, code_of, refuse_if}
+use Rattle.model.specs.Answers.{Out, plain, no_info, refuse_if}
 use Rattle.model.specs.Acts.{Act}
 use Rattle.model.specs.Rooms.{Room, ready, check}
 use Rattle.model.specs.Checks.{checked}
@@ -24,6 +24,8 @@ use Rattle.semaphore.specs.declared.state.Semaphores.{Semaphores}
 use Rattle.dataqueue.specs.declared.state.Queues.{Queues}
 use Rattle.regions.specs.declared.state.Regions.{Regions}
 use Rattle.kernel.specs.declared.state.State.{State}
+use Rattle.kernel.specs.declared.state.Answer.{Answer}
+use Rattle.kernel.specs.Answers.{answered}
 use Rattle.kernel.specs.View.{view_of}
 
 -- ---- the state with another part
@@ -47,11 +49,11 @@ shut s = record { domains = s.domains; closed = true; tasks = s.tasks; levels = 
 
 -- ---- the checks
 -- a registered ready task of a closed table, with the domain as which it runs
-abbrev pub caller_in : Model.State → ℕ → Program.Option Caller
+abbrev pub caller_in : Model.State → ℕ → Optional Caller
 caller_in m t = cond (m.fixed.closed && ready m t) (Some (record { task = index t; domain = running_at m t })) None
 
 -- first hit wins: who calls, which object, and whether the caller's running domain is admitted
-abbrev pub checked_by : Program.Option Caller → Operation → Result Target Err → Result Admitted Err
+abbrev pub checked_by : Optional Caller → Operation → Result Target Err → Result Admitted Err
 checked_by None o x = Refused e_ctx
 checked_by (Some c) o (Refused e) = Refused e
 checked_by (Some c) o (Ok x) = cond (admitted (pattern_of x.vector o) c.domain) (Ok (record { task = c.task; object = x.object })) (Refused e_oacv)
@@ -61,13 +63,18 @@ abbrev pub check_of : {C R : Type 0} → Room C R → State → ℤ → ℤ → 
 check_of r s z n a = checked (check r (view_of s) (no z) (no n) a) (no z) (no n)
 
 -- ---- what a call on the caller's level gives: a refusal, or the levels after it
-abbrev pub levels_given : Code → Levels → Result Levels Err
-levels_given ok x = Ok x
-levels_given waiting x = Ok x
-levels_given (error e) x = Refused e
+abbrev pub given_by : Code → Levels → Result Levels Err
+given_by ok x = Ok x
+given_by waiting x = Ok x
+given_by (error e) x = Refused e
 
-abbrev pub levels_after : Out → Result Levels Err
-levels_after o = levels_given o.answer.code (levels_as o.state.levels)
+abbrev pub levels_given : Out → Result Levels Err
+levels_given o = given_by o.answer.code (levels_as o.state.levels)
+
+-- the answer that it makes; a refusal leaves the very state
+abbrev pub levels_answered : State → Result Levels Err → Answer
+levels_answered s (Ok x) = answered (plain ok_number 0) no_info (with_levels s x)
+levels_answered s (Refused e) = answered (plain (number_of e) 0) no_info s
 
 -- ---- steps 1 to 3 of an entry's checks
 abbrev pub opening : Bool → ℕ → ℕ → Bool → Option Err

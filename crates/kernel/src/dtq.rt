@@ -1,7 +1,7 @@
 // Data queues: their entry, the calls on them (both sends, forced send, both receives, refer and set-vector), and what a dump shows of one.
 ghost use Rattle.std.specs.Prelude.{◌≡◌, get_or};
 ghost use Rattle.model.specs.State.{queue_at};
-ghost use Rattle.model.specs.Answers.{result_of};
+ghost use Rattle.model.specs.Checks.{passed};
 ghost use Rattle.model.specs.Acts.{own, refer, set_vector};
 ghost use Rattle.model.specs.Queues.{act_of, room};
 ghost use Rattle.model.specs.Table.{check_entry, enter, queue};
@@ -17,41 +17,41 @@ ghost use Rattle.kernel.specs.Inside.{with_tasks, with_queues, check_of};
 ghost use Rattle.kernel.specs.Promises.{Enters, Does, Tells};
 
 use crate::state::{Answer, Entered, State};
-use crate::table::first_hit;
 use access::vector::Vector;
-use dataqueue::call::{Effect, act, operation};
+use dataqueue::call::{act, operation};
 use dataqueue::entry::QueueEntry;
-use dataqueue::state::QueueInfo;
-use itron::code::E_OK;
+use dataqueue::state::{QueueInfo, Queues};
+use itron::error::Error;
 use itron::limit::MAX_QUEUES;
 use model::Patience;
 use model::dtq::{QueueCall, QueueRequest};
+use tasks::effect::Effect;
 
 impl State {
-    pub(crate) fn check_queue(self, given: QueueEntry) -> i32
+    pub(crate) fn check_queue(self, given: QueueEntry) -> Result<(), Error>
         requires { Valid self }
-        ensures { result ≡ result_of (check_entry (view_of self) (queue given.domain given.attribute given.capacity given.vector)) }
+        ensures { result ≡ passed (check_entry (view_of self) (queue given.domain given.attribute given.capacity given.vector)) }
     {
         let queues = self.queues;
-        let opening = self.opening(queues.len(), MAX_QUEUES, self.owns(given.domain));
-        first_hit(opening, queues.check(given.attribute, given.capacity))
+        self.opening(queues.len(), MAX_QUEUES, self.owns(given.domain))?;
+        queues.check(given.attribute, given.capacity)
     }
 
     pub fn add_queue(mut self, given: QueueEntry) -> Entered
         requires { Valid self }
         ensures { Enters self (enter (view_of self) (queue given.domain given.attribute given.capacity given.vector)) result }
     {
-        let code = self.check_queue(given);
-        if code != E_OK {
-            return self.enter(code);
+        let checked = self.check_queue(given);
+        if checked.is_err() {
+            return self.enter(checked);
         }
         let queues = self.queues;
         self.queues = queues.register(given);
-        self.enter(E_OK)
+        self.enter(Ok(()))
     }
 
     // What a request does to the tasks and the queues.
-    pub(crate) fn queue_effect(self, caller: i32, id: i32, request: QueueRequest) -> Effect
+    pub(crate) fn queue_effect(self, caller: i32, id: i32, request: QueueRequest) -> Effect<Queues>
         requires { Valid self }
         ensures { result ≡ acted self.tasks self.queues (act_of request) (check_of room self caller id (act_of request)) }
     {
@@ -62,15 +62,15 @@ impl State {
     }
 
     // A call's effect on the tasks and the data queues.
-    pub(crate) fn with_queues(self, effect: Effect) -> Answer
-        ensures { result ≡ answered effect.reply effect.info (with_queues (with_tasks self effect.tasks) effect.queues) }
+    pub(crate) fn with_queues(self, effect: Effect<Queues>) -> Answer
+        ensures { result ≡ answered effect.reply effect.info (with_queues (with_tasks self effect.tasks) effect.records) }
     {
         let reply = effect.reply;
         let outcome = reply.outcome;
         let released = reply.released;
         let info = effect.info;
         let tasks = effect.tasks;
-        let queues = effect.queues;
+        let queues = effect.records;
         Answer {
             outcome,
             word: reply.word,

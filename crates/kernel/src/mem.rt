@@ -3,6 +3,7 @@ ghost use Rattle.std.specs.Prelude.{◌≡◌};
 ghost use Rattle.model.specs.Lists.{at};
 ghost use Rattle.model.specs.State.{no_region};
 ghost use Rattle.model.specs.Answers.{result_of};
+ghost use Rattle.model.specs.Checks.{passed};
 ghost use Rattle.model.specs.Table.{check_entry, enter, region};
 ghost use Rattle.model.specs.Verdict.{verdict};
 ghost use Rattle.model.specs.Images.{image, hand_out, handed_bytes};
@@ -12,56 +13,92 @@ ghost use Rattle.kernel.specs.Valid.{Valid};
 ghost use Rattle.kernel.specs.Promises.{Enters};
 
 use crate::state::{Entered, State};
-use crate::table::first_hit;
 use images::pair::{Bases, are_images, is_held, part};
-use itron::code::{E_CTX, E_ID, E_NOEXS, E_OK, E_PAR};
+use itron::error::{Error, code_of};
 use itron::limit::MAX_REGIONS;
 use regions::entry::RegionEntry;
 use regions::flag::READ;
 use regions::state::RegionInfo;
 
 impl State {
-    pub(crate) fn check_region(self, given: RegionEntry) -> i32
+    pub(crate) fn check_region(self, given: RegionEntry) -> Result<(), Error>
         requires { Valid self }
-        ensures { result ≡ result_of (check_entry (view_of self) (region given.domain given.attribute given.base given.size given.vector)) }
+        ensures { result ≡ passed (check_entry (view_of self) (region given.domain given.attribute given.base given.size given.vector)) }
     {
         let regions = self.regions;
-        let opening = self.opening(regions.len(), MAX_REGIONS, self.owns(given.domain));
-        first_hit(
-            opening,
-            regions.check(given.attribute, given.base, given.size),
-        )
+        self.opening(regions.len(), MAX_REGIONS, self.owns(given.domain))?;
+        regions.check(given.attribute, given.base, given.size)
     }
 
     pub fn add_region(mut self, given: RegionEntry) -> Entered
         requires { Valid self }
         ensures { Enters self (enter (view_of self) (region given.domain given.attribute given.base given.size given.vector)) result }
     {
-        let code = self.check_region(given);
-        if code != E_OK {
-            return self.enter(code);
+        let checked = self.check_region(given);
+        if checked.is_err() {
+            return self.enter(checked);
         }
         let regions = self.regions;
         self.regions = regions.register(given);
-        self.enter(E_OK)
+        self.enter(Ok(()))
     }
 
-    // Whether a domain may use an area as it wishes; it gives no state back.
-    pub fn prb_mem(self, domain: i32, base: u32, size: u32, wishes: u32) -> i32
+    // Whether a domain may use an area as it wishes.
+    pub(crate) fn verdict(
+        self,
+        domain: i32,
+        base: u32,
+        size: u32,
+        wishes: u32,
+    ) -> Result<(), Error>
         requires { Valid self }
-        ensures { result ≡ result_of (verdict (view_of self) domain base size wishes) }
+        ensures { result ≡ passed (verdict (view_of self) domain base size wishes) }
     {
         if !self.closed {
-            return E_CTX;
+            return Err(Error::Ctx);
         }
         if !self.owns_task(domain) {
-            return E_ID;
+            return Err(Error::Id);
         }
         let regions = self.regions;
         regions.judge(domain, base, size, wishes)
     }
 
-    // The code of handing out an area: whether a domain may read it and one of two lent images has all of it.
+    // The verdict's code; it gives no state back.
+    pub fn prb_mem(self, domain: i32, base: u32, size: u32, wishes: u32) -> i32
+        requires { Valid self }
+        ensures { result ≡ result_of (verdict (view_of self) domain base size wishes) }
+    {
+        code_of(self.verdict(domain, base, size, wishes))
+    }
+
+    // Whether a domain may read an area and one of two lent images has all of it.
+    pub(crate) fn hand_out<'a>(
+        self,
+        domain: i32,
+        base: u32,
+        size: u32,
+        bases: Bases,
+        flash: &'a [u8],
+        ram: &'a [u8],
+    ) -> Result<(), Error>
+        requires { Valid self }
+        ensures { result ≡ passed (hand_out (view_of self) domain base size (image bases.flash flash.now) (image bases.ram ram.now)) }
+    {
+        if !self.closed {
+            return Err(Error::Ctx);
+        }
+        if !are_images(bases, flash, ram) {
+            return Err(Error::Par);
+        }
+        self.verdict(domain, base, size, READ)?;
+        if !is_held(bases, flash, ram, base, size) {
+            return Err(Error::Noexs);
+        }
+        Ok(())
+    }
+
+    // The code of handing out an area.
     pub fn get_mem_code<'a>(
         self,
         domain: i32,
@@ -74,20 +111,7 @@ impl State {
         requires { Valid self }
         ensures { result ≡ result_of (hand_out (view_of self) domain base size (image bases.flash flash.now) (image bases.ram ram.now)) }
     {
-        if !self.closed {
-            return E_CTX;
-        }
-        if !are_images(bases, flash, ram) {
-            return E_PAR;
-        }
-        let code = self.prb_mem(domain, base, size, READ);
-        if code != E_OK {
-            return code;
-        }
-        if !is_held(bases, flash, ram, base, size) {
-            return E_NOEXS;
-        }
-        E_OK
+        code_of(self.hand_out(domain, base, size, bases, flash, ram))
     }
 
     // The area's bytes, as they stand in the one image that has them; an empty part where the code is not E_OK.
@@ -103,7 +127,7 @@ impl State {
         requires { Valid self }
         ensures { result.now ≡ handed_bytes (view_of self) domain base size (image bases.flash flash.now) (image bases.ram ram.now) }
     {
-        if self.get_mem_code(domain, base, size, bases, flash, ram) != E_OK {
+        if self.hand_out(domain, base, size, bases, flash, ram).is_err() {
             return &flash[0..0];
         }
         part(bases, flash, ram, base, size)

@@ -1,7 +1,7 @@
 // Semaphores: their entry, the calls on them (signal, poll, wait, refer and set-vector), and what a dump shows of one.
 ghost use Rattle.std.specs.Prelude.{◌≡◌};
 ghost use Rattle.model.specs.State.{sem_at};
-ghost use Rattle.model.specs.Answers.{result_of};
+ghost use Rattle.model.specs.Checks.{passed};
 ghost use Rattle.model.specs.Acts.{own, refer, set_vector};
 ghost use Rattle.model.specs.Semaphores.{act_of, room};
 ghost use Rattle.model.specs.Table.{check_entry, enter, sem};
@@ -16,44 +16,42 @@ ghost use Rattle.kernel.specs.Inside.{with_tasks, with_semaphores, check_of};
 ghost use Rattle.kernel.specs.Promises.{Enters, Does, Tells};
 
 use crate::state::{Answer, Entered, State};
-use crate::table::first_hit;
 use access::vector::Vector;
-use itron::code::E_OK;
+use itron::error::Error;
 use itron::limit::MAX_SEMAPHORES;
 use model::Patience;
 use model::sem::{Semaphore, SemaphoreCall, SemaphoreRequest};
-use semaphore::call::{Effect, act, operation};
+use semaphore::call::{act, operation};
 use semaphore::entry;
 use semaphore::entry::SemaphoreEntry;
+use semaphore::state::Semaphores;
+use tasks::effect::Effect;
 
 impl State {
-    pub(crate) fn check_semaphore(self, given: SemaphoreEntry) -> i32
+    pub(crate) fn check_semaphore(self, given: SemaphoreEntry) -> Result<(), Error>
         requires { Valid self }
-        ensures { result ≡ result_of (check_entry (view_of self) (sem given.domain given.attribute given.start given.max given.vector)) }
+        ensures { result ≡ passed (check_entry (view_of self) (sem given.domain given.attribute given.start given.max given.vector)) }
     {
         let semaphores = self.semaphores;
-        let opening = self.opening(semaphores.len(), MAX_SEMAPHORES, self.owns(given.domain));
-        first_hit(
-            opening,
-            entry::check(given.attribute, given.start, given.max),
-        )
+        self.opening(semaphores.len(), MAX_SEMAPHORES, self.owns(given.domain))?;
+        entry::check(given.attribute, given.start, given.max)
     }
 
     pub fn add_semaphore(mut self, given: SemaphoreEntry) -> Entered
         requires { Valid self }
         ensures { Enters self (enter (view_of self) (sem given.domain given.attribute given.start given.max given.vector)) result }
     {
-        let code = self.check_semaphore(given);
-        if code != E_OK {
-            return self.enter(code);
+        let checked = self.check_semaphore(given);
+        if checked.is_err() {
+            return self.enter(checked);
         }
         let semaphores = self.semaphores;
         self.semaphores = semaphores.register(given);
-        self.enter(E_OK)
+        self.enter(Ok(()))
     }
 
     // What a request does to the tasks and the semaphores.
-    pub(crate) fn semaphore_effect(self, caller: i32, id: i32, request: SemaphoreRequest) -> Effect
+    pub(crate) fn semaphore_effect(self, caller: i32, id: i32, request: SemaphoreRequest) -> Effect<Semaphores>
         requires { Valid self }
         ensures { result ≡ acted self.tasks self.semaphores (act_of request) (check_of room self caller id (act_of request)) }
     {
@@ -64,15 +62,15 @@ impl State {
     }
 
     // A call's effect on the tasks and the semaphores. The state is made anew: measured, storing into it costs a copy of it more.
-    pub(crate) fn with_semaphores(self, effect: Effect) -> Answer
-        ensures { result ≡ answered effect.reply effect.info (with_semaphores (with_tasks self effect.tasks) effect.semaphores) }
+    pub(crate) fn with_semaphores(self, effect: Effect<Semaphores>) -> Answer
+        ensures { result ≡ answered effect.reply effect.info (with_semaphores (with_tasks self effect.tasks) effect.records) }
     {
         let reply = effect.reply;
         let outcome = reply.outcome;
         let released = reply.released;
         let info = effect.info;
         let tasks = effect.tasks;
-        let semaphores = effect.semaphores;
+        let semaphores = effect.records;
         Answer {
             outcome,
             word: reply.word,

@@ -1,8 +1,10 @@
 // The state, and the answers that give it back.
 ghost use Rattle.std.specs.Prelude.{◌≡◌};
+ghost use Rattle.itron.specs.Codes.{code_of};
 ghost use Rattle.kernel.specs.Answers.{entered};
 
 use dataqueue::state::Queues;
+use itron::error::{Error, code_of};
 use levels::state::Levels;
 use model::{Info, Outcome, Released};
 use regions::state::Regions;
@@ -40,10 +42,13 @@ pub struct Entered {
 }
 
 impl State {
-    // The answer of fresh, an entry or closing.
-    pub(crate) fn enter(self, code: i32) -> Entered
-        ensures { result ≡ entered code self }
+    // The answer of fresh, an entry or closing, by what its checks found.
+    pub(crate) fn enter(self, checked: Result<(), Error>) -> Entered
+        ensures { result ≡ entered (code_of checked) self }
     {
-        Entered { code, state: self }
+        Entered {
+            code: code_of(checked),
+            state: self,
+        }
     }
 }

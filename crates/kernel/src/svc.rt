@@ -7,43 +7,48 @@ ghost use Rattle.model.specs.declared.svc.ExtendedCall.TheVariants.{Enter, Leave
 ghost use Rattle.kernel.specs.View.{view_of};
 ghost use Rattle.kernel.specs.Valid.{Valid};
 ghost use Rattle.kernel.specs.Answers.{answered};
-ghost use Rattle.kernel.specs.Inside.{with_levels, levels_given};
+ghost use Rattle.kernel.specs.Inside.{levels_given, levels_answered};
 ghost use Rattle.kernel.specs.Promises.{Does};
 
 use crate::state::{Answer, State};
-use itron::code::E_CTX;
-use levels::call::{Effect, act};
+use itron::code::E_OK;
+use itron::error::Error;
+use levels::call::act;
+use levels::state::Levels;
 use model::svc::ExtendedCall;
 use model::{Info, Outcome, Released};
 use tasks::wait::Caller;
 
 impl State {
-    // What a call on the caller's level gives: its code, and the levels after it.
-    pub(crate) fn level_effect(self, caller: i32, asked: ExtendedCall) -> Effect
+    // What a call on the caller's level gives: a refusal, or the levels after it.
+    pub(crate) fn level_effect(self, caller: i32, asked: ExtendedCall) -> Result<Levels, Error>
         requires { Valid self }
         ensures { result ≡ levels_given (step (view_of self) (call caller (on_level asked))) }
     {
-        let levels = self.levels;
-        let Caller::Ready(task, _) = self.caller(caller) else {
-            return Effect {
-                code: E_CTX,
-                levels,
-            };
-        };
-        act(levels, task, asked)
+        let Caller { task, .. } = self.caller(caller).ok_or(Error::Ctx)?;
+        act(self.levels, task, asked)
     }
 
-    // A call's effect on the levels.
-    pub(crate) fn with_levels(self, effect: Effect) -> Answer
-        ensures { result ≡ answered (plain effect.code 0) no_info (with_levels self effect.levels) }
+    // The answer that hands on a code and nothing else.
+    pub(crate) fn answer(self, code: i32) -> Answer
+        ensures { result ≡ answered (plain code 0) no_info self }
     {
-        let levels = effect.levels;
         Answer {
-            outcome: Outcome::Code(effect.code),
+            outcome: Outcome::Code(code),
             word: 0,
             released: Released { task: 0, word: 0 },
             info: Info::NONE,
-            state: State { levels, ..self },
+            state: self,
+        }
+    }
+
+    // A call's effect on the levels.
+    pub(crate) fn with_levels(self, effect: Result<Levels, Error>) -> Answer
+        ensures { result ≡ levels_answered self effect }
+    {
+        match effect {
+            Ok(levels) => State { levels, ..self }.answer(E_OK),
+            Err(error) => self.answer(i32::from(error)),
         }
     }
 
@@ -77,13 +82,10 @@ impl State {
         ensures { result ≡ level_at (view_of self) number }
     {
         let tasks = self.tasks;
-        if number == 0 {
-            return 0;
-        }
-        if tasks.len() < number {
-            return 0;
-        }
         let levels = self.levels;
+        if number == 0 || tasks.len() < number {
+            return 0;
+        }
         levels.level(number - 1)
     }
 }

@@ -1,17 +1,17 @@
 // Building the table: fresh, a task's entry, closing, and what the entries of all kinds share (document 01, "Building the table").
 ghost use Rattle.std.specs.Prelude.{◌≡◌};
-ghost use Rattle.model.specs.Answers.{result_of};
+ghost use Rattle.model.specs.Checks.{passed};
 ghost use Rattle.model.specs.Table.{empty_state, fresh, owns, owns_task, check_entry, enter, task, close};
 ghost use Rattle.kernel.specs.View.{view_of};
 ghost use Rattle.kernel.specs.Form.{state_of};
 ghost use Rattle.kernel.specs.Valid.{Valid};
-ghost use Rattle.kernel.specs.Inside.{opening, first_hit};
+ghost use Rattle.kernel.specs.Inside.{opening};
 ghost use Rattle.kernel.specs.Promises.{Begins, Enters};
 
 use crate::state::{Entered, State};
 use access::domain::{KERNEL_DOMAIN, NO_DOMAIN, ordinal};
 use dataqueue::state::Queues;
-use itron::code::{E_CTX, E_ID, E_NOID, E_OK, E_PAR};
+use itron::error::Error;
 use itron::limit::{MAX_DOMAINS, MAX_TASKS, MIN_UNIT};
 use levels::state::Levels;
 use regions::state::Regions;
@@ -19,16 +19,6 @@ use regions::unit::is_unit;
 use semaphore::state::Semaphores;
 use tasks::entry;
 use tasks::state::Tasks;
-
-// Of two codes of checks the first that refuses.
-pub(crate) fn first_hit(first: i32, second: i32) -> i32
-    ensures { result ≡ first_hit first second }
-{
-    if first != E_OK {
-        return first;
-    }
-    second
-}
 
 impl State {
     // The open table with no entry.
@@ -51,12 +41,11 @@ impl State {
         ensures { Begins n unit result }
     {
         let domains = ordinal(n, MAX_DOMAINS);
-        // `ordinal` gives 0 for a bad n, and for n = 0, which is good.
-        let counted = (n == 0) | (domains != 0);
+        let counted = (n == 0) | domains.is_some();
         if !(counted & is_unit(unit)) {
-            return State::empty(0, MIN_UNIT).enter(E_PAR);
+            return State::empty(0, MIN_UNIT).enter(Err(Error::Par));
         }
-        State::empty(domains, unit).enter(E_OK)
+        State::empty(domains.unwrap_or(0), unit).enter(Ok(()))
     }
 
     // Whether a task may belong to a domain, and whether the verdict may be asked for it: the kernel's, or 1 to n.
@@ -66,7 +55,7 @@ impl State {
         if domain == KERNEL_DOMAIN {
             return true;
         }
-        ordinal(domain, self.domains) != 0
+        ordinal(domain, self.domains).is_some()
     }
 
     // Whether another object may belong to a domain: also to none.
@@ -80,25 +69,28 @@ impl State {
     }
 
     // Steps 1 to 3 of an entry's checks, first hit wins: table closed, kind full, domain.
-    pub(crate) fn opening(self, used: usize, most: usize, owned: bool) -> i32
-        ensures { result ≡ result_of (opening self.closed used most owned) }
+    pub(crate) fn opening(self, used: usize, most: usize, owned: bool) -> Result<(), Error>
+        ensures { result ≡ passed (opening self.closed used most owned) }
     {
         if self.closed {
-            return E_CTX;
+            return Err(Error::Ctx);
         }
         if most <= used {
-            return E_NOID;
+            return Err(Error::Noid);
         }
-        if owned { E_OK } else { E_ID }
+        if !owned {
+            return Err(Error::Id);
+        }
+        Ok(())
     }
 
-    pub(crate) fn check_task(self, domain: i32, priority: u32) -> i32
+    pub(crate) fn check_task(self, domain: i32, priority: u32) -> Result<(), Error>
         requires { Valid self }
-        ensures { result ≡ result_of (check_entry (view_of self) (task domain priority)) }
+        ensures { result ≡ passed (check_entry (view_of self) (task domain priority)) }
     {
         let tasks = self.tasks;
-        let opening = self.opening(tasks.len(), MAX_TASKS, self.owns_task(domain));
-        first_hit(opening, entry::check(priority))
+        self.opening(tasks.len(), MAX_TASKS, self.owns_task(domain))?;
+        entry::check(priority)
     }
 
     // A task entry holds its domain and its priority.
@@ -106,13 +98,13 @@ impl State {
         requires { Valid self }
         ensures { Enters self (enter (view_of self) (task domain priority)) result }
     {
-        let code = self.check_task(domain, priority);
-        if code != E_OK {
-            return self.enter(code);
+        let checked = self.check_task(domain, priority);
+        if checked.is_err() {
+            return self.enter(checked);
         }
         let tasks = self.tasks;
         self.tasks = tasks.add(domain, priority);
-        self.enter(E_OK)
+        self.enter(Ok(()))
     }
 
     // Closing only closes.
@@ -121,9 +113,9 @@ impl State {
         ensures { Enters self (close (view_of self)) result }
     {
         if self.closed {
-            return self.enter(E_CTX);
+            return self.enter(Err(Error::Ctx));
         }
         self.closed = true;
-        self.enter(E_OK)
+        self.enter(Ok(()))
     }
 }

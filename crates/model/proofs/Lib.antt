@@ -2,6 +2,7 @@ pub mod Lists
 pub mod Tests
 pub mod Ordinals
 pub mod Targets
+pub mod Passed
 pub mod Chains
 pub mod Units
 pub mod Order
