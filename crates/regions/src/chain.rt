@@ -43,22 +43,18 @@ impl Regions {
         requires { Indexed self index first }
         ensures { result ≡ in_chain (drop index (regions_of self)) end }
     {
-        let count = self.count;
-        let mut at = index;
         let mut region = first;
-        while region.end() < end {
-            let next = at + 1;
-            if next == count {
-                return false;
+        for next in index + 1..self.count {
+            if end <= region.end() {
+                return true;
             }
             let protection = self.protections[next];
             let follower = RegionInfo::of(self.bases[next], self.sizes[next], protection);
             if !(region.touches(follower) & region.equals(follower)) {
                 return false;
             }
-            at = next;
             region = follower;
         }
-        true
+        end <= region.end()
     }
 }

@@ -39,15 +39,13 @@ pub fn find<'a>(bases: &'a [u32], sizes: &'a [u32], count: usize, address: u32) 
     }
     let mut first: usize = 0;
     let mut half = MAX_REGIONS / 2;
-    let mut round: u32 = 1;
-    while round < ROUNDS {
+    for _ in 1..ROUNDS {
         if 2 * half <= count {
             first = half_from(bases, first, first + half, address);
         } else if half < count {
             first = half_from(bases, first, count - half, address);
         }
         half /= 2;
-        round += 1;
     }
     if covers(bases[first], sizes[first], address) {
         return Some(first);

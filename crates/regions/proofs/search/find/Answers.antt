@@ -15,35 +15,35 @@ returns-then-count-eq0 c =
     let a = c.args in
     sym (no_region_lem a.bases.now a.sizes.now a.address a.count 0 c.if-count-eq0.true)
 
-pub loop-round-init : goal.loop-round-init
-loop-round-init c =
+pub loop-init : goal.loop-init
+loop-init c =
     begin c.requires.2.few (omega (arith, c.if-count-eq0.false))
 
 pub overflow_mul-half : goal.overflow_mul-half
-overflow_mul-half c = let f = c.loop-round.invariant.few in omega arith
+overflow_mul-half c = let f = c.loop.invariant.few in omega arith
 
 pub overflow_add-first : goal.overflow_add-first
 overflow_add-first c =
-    let f = c.loop-round.invariant.few in let l = c.loop-round.invariant.left.inside in search rules
+    let f = c.loop.invariant.few in let l = c.loop.invariant.left.inside in search rules
 
 pub half_from-first-requires : goal.half_from-first-requires
 half_from-first-requires c =
-    let v = twice_left c.loop-round.invariant (omega (arith, c.loop-round-test.true)) in
+    let v = twice_left c.loop.invariant (omega (arith, c.loop-test.true)) in
     let w = v.within (omega arith) in
     let n = c.requires.0 in
     omega arith
 
 pub half_from-first-requires-then-half-count-2 : goal.half_from-first-requires-then-half-count-2
 half_from-first-requires-then-half-count-2 c =
-    let o = some_left c.loop-round.invariant (omega (arith, c.loop-round-test.true)) in
+    let o = some_left c.loop.invariant (omega (arith, c.loop-test.true)) in
     let n = c.requires.0 in
     omega arith
 
-pub loop-round-preserved : goal.loop-round-preserved
-loop-round-preserved c =
+pub loop-preserved : goal.loop-preserved
+loop-preserved c =
     let a = c.args in
-    let i = c.loop-round in
-    let l : i.round < rounds = omega (arith, c.loop-round-test.true) in
+    let i = c.loop in
+    let l : i.counter < rounds = omega (arith, c.loop-test.true) in
     let o = some_left i.invariant l in
     let v = twice_left i.invariant l in
     let kept : ℕ → Type 0 = λ f. Left a.bases.now a.sizes.now a.count a.address f i.half in
@@ -59,32 +59,32 @@ loop-round-preserved c =
     ])
 
 pub offset_bounds-bases-first : goal.offset_bounds-bases-first
-offset_bounds-bases-first c = let l = c.loop-round.invariant.left.inside in search rules
+offset_bounds-bases-first c = let l = c.loop.invariant.left.inside in search rules
 
 pub bounds-bases-first : goal.bounds-bases-first
-bounds-bases-first c = let l = c.loop-round.invariant.left.inside in search rules
+bounds-bases-first c = let l = c.loop.invariant.left.inside in search rules
 
 pub offset_bounds-sizes-first : goal.offset_bounds-sizes-first
-offset_bounds-sizes-first c = let l = c.loop-round.invariant.left.inside in search rules
+offset_bounds-sizes-first c = let l = c.loop.invariant.left.inside in search rules
 
 pub bounds-sizes-first : goal.bounds-sizes-first
-bounds-sizes-first c = let l = c.loop-round.invariant.left.inside in search rules
+bounds-sizes-first c = let l = c.loop.invariant.left.inside in search rules
 
 pub covers-requires : goal.covers-requires
 covers-requires c = tt
 
 pub returns-then-covers : goal.returns-then-covers
 returns-then-covers c =
-    let i = c.loop-round in
+    let i = c.loop in
     sym
-    (decides i.invariant (omega (arith, c.loop-round-test.false))
+    (decides i.invariant (omega (arith, c.loop-test.false))
     ∙ ap (λ (b : Bool). cond b (Some i.first) None) (sym c.covers.ensures)
     ∙ ap (λ (b : Bool). cond b (Some i.first) None) c.if-covers.true)
 
 pub returns : goal.returns
 returns c =
-    let i = c.loop-round in
+    let i = c.loop in
     sym
-    (decides i.invariant (omega (arith, c.loop-round-test.false))
+    (decides i.invariant (omega (arith, c.loop-test.false))
     ∙ ap (λ (b : Bool). cond b (Some i.first) None) (sym c.covers.ensures)
     ∙ ap (λ (b : Bool). cond b (Some i.first) None) c.if-covers.false)
