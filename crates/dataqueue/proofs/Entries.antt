@@ -2,47 +2,24 @@
 use Prim.Native.Nat.{ℕ, suc, ◌+◌, ◌≤◌, ◌<◌}
 use native.Mathlib.Omega.{arith}
 use mathlib.Core.Path.{◌≡◌, refl, sym, ap, ◌∙◌}
-use mathlib.Core.Bool.{Bool, true, false, not}
 use mathlib.Core.List.{List, [], ◌∷◌, ◌++◌}
-use mathlib.Core.Option.{none}
 use lib.IntN.{ℤ}
 use lib.ListN.{length, set, length-append}
 use Rattle.access.specs.declared.vector.Vector.{Vector}
 use Rattle.std.specs.Prelude.{Some as Given}
 use Rattle.arrays.specs.Pad.{pad}
 use Rattle.arrays.proofs.Pads.{pad_snoc}
-use Rattle.itron.specs.Codes.{number_of, ok_number}
-use Rattle.itron.specs.declared.error.Error.TheVariants.{Rsatr as e_rsatr, Par as e_par, Nomem as e_nomem}
 use Rattle.itron.specs.Limits.{max_queues, max_words}
 use Rattle.model.specs.State as Model
-use Rattle.model.specs.Answers.{refuse_if, result_of}
-use Rattle.model.specs.Queues.{words_used, attribute_ok, numbers_ok, memory_ok, new_queue}
+use Rattle.model.specs.Queues.{words_used, new_queue}
 use Rattle.model.specs.Conditions.{QueuesFit}
 use Rattle.dataqueue.specs.declared.state.Queue.{Queue}
 use Rattle.dataqueue.specs.declared.state.Queues.{Queues}
 use Rattle.dataqueue.specs.View.{queues_of}
 use Rattle.dataqueue.specs.Form.{no_record, record_of, laid, queues_as}
 use Rattle.dataqueue.specs.Held.{Held}
-use Rattle.dataqueue.specs.Entries.{entry_check}
 use Rattle.dataqueue.proofs.Parts.{laid_length, laid_snoc, words_more, used_last}
 use Rattle.dataqueue.proofs.Links.{record_in, count_seen, record_seen}
-
--- ---- the checks
-abbrev ladder : Bool → Bool → Bool → ℤ
-ladder a n m = result_of (refuse_if (not a) e_rsatr (refuse_if (not n) e_par (refuse_if (not m) e_nomem none)))
-
-module _ (qs : List Model.Queue) (a c : ℕ) where
-  pub refuses_attribute : attribute_ok a ≡ false → number_of e_rsatr ≡ result_of (entry_check qs a c)
-  refuses_attribute h = λ i. ladder (sym h i) (numbers_ok c) (memory_ok qs c)
-
-  pub refuses_numbers : attribute_ok a ≡ true → numbers_ok c ≡ false → number_of e_par ≡ result_of (entry_check qs a c)
-  refuses_numbers g h = λ i. ladder (sym g i) (sym h i) (memory_ok qs c)
-
-  pub refuses_memory : attribute_ok a ≡ true → numbers_ok c ≡ true → memory_ok qs c ≡ false → number_of e_nomem ≡ result_of (entry_check qs a c)
-  refuses_memory f g h = λ i. ladder (sym f i) (sym g i) (sym h i)
-
-  pub takes : attribute_ok a ≡ true → numbers_ok c ≡ true → memory_ok qs c ≡ true → ok_number ≡ result_of (entry_check qs a c)
-  takes f g h = λ i. ladder (sym f i) (sym g i) (sym h i)
 
 -- ---- one queue more
 abbrev added : Queues → Queue → Queues

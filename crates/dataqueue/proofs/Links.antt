@@ -165,6 +165,10 @@ module _ {q : Queues} (h : Held q) where
         row (x ∷ l) zero h = refl
         row (x ∷ l) (suc k) h = row l k (omega arith)
 
+    -- a buffer that has room
+    pub room_seen : (record_in q k).len < (record_in q k).capacity → length (queue_in (queues_of q) (suc k)).buffer < (queue_in (queues_of q) (suc k)).capacity
+    room_seen r = subst (λ (x : Queue). x.len < x.capacity) record_seen r
+
     -- a buffer that has a word
     pub some_seen : 0 < (record_in q k).len → 0 < length (queue_in (queues_of q) (suc k)).buffer
     some_seen r = subst (λ (x : Queue). 0 < x.len) record_seen r

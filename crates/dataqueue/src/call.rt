@@ -8,69 +8,24 @@ ghost use Rattle.tasks.specs.Held as TasksHeld;
 ghost use Rattle.tasks.specs.Held.{Passed};
 ghost use Rattle.dataqueue.specs.View.{queues_of};
 ghost use Rattle.dataqueue.specs.Held.{Held};
-ghost use Rattle.dataqueue.specs.Effects.{acted, effect_as, refused_with, done_with, ended_with};
+ghost use Rattle.dataqueue.specs.Effects.{acted, effect_as};
 
 use crate::state::Queues;
 use access::vector::Operation;
-use itron::code::{E_ILUSE, E_OK};
-use model::check::Check;
+use itron::code::E_OK;
+use itron::error::Error;
+use model::check::Admitted;
 use model::dtq::{QueueCall, QueueRequest};
 use model::{Info, Patience, Reply, Side, attribute};
+use tasks::effect::Effect;
 use tasks::state::Tasks;
 use tasks::task::Wait;
-use tasks::wait::{Ended, First};
 
 // Receivers stand as they came, whatever the attribute says.
 pub const RECEIVERS_BY_PRIORITY: bool = false;
 
-// What a call gives: the reply, what a refer tells, and the tasks and the queues after it.
-#[derive(Clone, Copy)]
-pub struct Effect {
-    pub reply: Reply,
-    pub info: Info,
-    pub tasks: Tasks,
-    pub queues: Queues,
-}
-
-// E_OK with a word, nobody released.
-pub(crate) fn done(tasks: Tasks, queues: Queues, word: u32) -> Effect
-    ensures { result ≡ done_with tasks queues word }
-{
-    Effect {
-        reply: Reply::plain(E_OK, word),
-        info: Info::NONE,
-        tasks,
-        queues,
-    }
-}
-
-// A refusal: its code, with everything as it was.
-pub(crate) fn refused(tasks: Tasks, queues: Queues, code: i32) -> Effect
-    ensures { result ≡ refused_with tasks queues code }
-{
-    Effect {
-        reply: Reply::plain(code, 0),
-        info: Info::NONE,
-        tasks,
-        queues,
-    }
-}
-
-// An end on the tasks, with the queues beside it.
-pub(crate) fn ended(end: Ended, queues: Queues) -> Effect
-    ensures { result ≡ ended_with end queues }
-{
-    let reply = end.reply;
-    let tasks = end.tasks;
-    Effect {
-        reply,
-        info: Info::NONE,
-        tasks,
-        queues,
-    }
-}
-
 // Both sends.
+#[tactic(auto, using(crate::proofs::Effects::sends))]
 pub(crate) fn send(
     tasks: Tasks,
     queues: Queues,
@@ -78,33 +33,32 @@ pub(crate) fn send(
     object: usize,
     patience: Patience,
     word: u32,
-) -> Effect
+) -> Effect<Queues>
     requires { TasksHeld.Held tasks × Held queues × TasksHeld.Free (entries_of tasks) (waits_of tasks) task × (object < length (queues_of queues)) }
     ensures { result ≡ effect_as (entries_of tasks) (on_send (waits_of tasks) (queues_of queues) (suc task) (suc object) word patience) }
 {
-    match tasks.first(Side::Receiving, object, RECEIVERS_BY_PRIORITY) {
-        First::Waiter(receiver, _) => ended(tasks.wake(receiver, 0, word), queues),
-        First::Nobody => {
-            if queues.has_room(object) {
-                done(tasks, queues.push(object, word), 0)
-            } else {
-                ended(
-                    tasks.or_wait(task, Wait::Sending(object as u8, word), patience),
-                    queues,
-                )
-            }
-        },
+    if let Some(receiver) = tasks.first(Side::Receiving, object, RECEIVERS_BY_PRIORITY) {
+        return Effect::ended(tasks.wake(receiver.task, 0, word), queues);
+    }
+    if queues.has_room(object) {
+        Effect::done(tasks, queues.push(object, word), 0)
+    } else {
+        Effect::ended(
+            tasks.or_wait(task, Wait::Sending(object as u8, word), patience),
+            queues,
+        )
     }
 }
 
 // Both receives.
+#[tactic(auto, using(crate::proofs::Effects::receives))]
 pub(crate) fn receive(
     tasks: Tasks,
     queues: Queues,
     task: usize,
     object: usize,
     patience: Patience,
-) -> Effect
+) -> Effect<Queues>
     requires { TasksHeld.Held tasks × Held queues × TasksHeld.Free (entries_of tasks) (waits_of tasks) task × (object < length (queues_of queues)) }
     ensures { result ≡ effect_as (entries_of tasks) (on_receive (entries_of tasks) (waits_of tasks) (queues_of queues) (suc task) (suc object) patience) }
 {
@@ -113,39 +67,40 @@ pub(crate) fn receive(
     let sender = tasks.first(Side::Sending, object, by_priority);
     if queue.len == 0 {
         return match sender {
-            First::Waiter(from, sent) => ended(tasks.wake(from, sent, 0), queues),
-            First::Nobody => ended(
+            Some(first) => Effect::ended(tasks.wake(first.task, first.word, 0), queues),
+            None => Effect::ended(
                 tasks.or_wait(task, Wait::Receiving(object as u8), patience),
                 queues,
             ),
         };
     }
-    let first = queue.first;
-    let word = queues.words[first];
+    let word = queues.words[queue.first];
     match sender {
-        First::Waiter(from, sent) => ended(tasks.wake(from, word, 0), queues.refill(object, sent)),
-        First::Nobody => done(tasks, queues.pop(object), word),
+        Some(first) => Effect::ended(
+            tasks.wake(first.task, word, 0),
+            queues.refill(object, first.word),
+        ),
+        None => Effect::done(tasks, queues.pop(object), word),
     }
 }
 
 // Forced send. It takes no task: it never waits.
-pub(crate) fn force(tasks: Tasks, queues: Queues, object: usize, word: u32) -> Effect
+#[tactic(auto, using(crate::proofs::Effects::sends_forced))]
+pub(crate) fn force(tasks: Tasks, queues: Queues, object: usize, word: u32) -> Effect<Queues>
     requires { TasksHeld.Held tasks × Held queues × (object < length (queues_of queues)) }
     ensures { result ≡ effect_as (entries_of tasks) (on_force (waits_of tasks) (queues_of queues) (suc object) word) }
 {
     let queue = queues.records[object];
     if queue.capacity == 0 {
-        return refused(tasks, queues, E_ILUSE);
+        return Effect::refused(tasks, queues, Error::Iluse);
     }
-    match tasks.first(Side::Receiving, object, RECEIVERS_BY_PRIORITY) {
-        First::Waiter(taker, _) => ended(tasks.wake(taker, 0, word), queues),
-        First::Nobody => {
-            if queue.len < queue.capacity {
-                return done(tasks, queues.push(object, word), 0);
-            }
-            done(tasks, queues.refill(object, word), 0)
-        },
+    if let Some(taker) = tasks.first(Side::Receiving, object, RECEIVERS_BY_PRIORITY) {
+        return Effect::ended(tasks.wake(taker.task, 0, word), queues);
     }
+    if queue.len < queue.capacity {
+        return Effect::done(tasks, queues.push(object, word), 0);
+    }
+    Effect::done(tasks, queues.refill(object, word), 0)
 }
 
 // A data queue's own calls.
@@ -155,7 +110,7 @@ pub(crate) fn own(
     task: usize,
     object: usize,
     call: QueueCall,
-) -> Effect
+) -> Effect<Queues>
     requires { TasksHeld.Held tasks × Held queues × TasksHeld.Free (entries_of tasks) (waits_of tasks) task × (object < length (queues_of queues)) }
     ensures { result ≡ effect_as (entries_of tasks) (does (entries_of tasks) (waits_of tasks) (queues_of queues) (suc task) (suc object) call) }
 {
@@ -167,7 +122,7 @@ pub(crate) fn own(
 }
 
 // Refer.
-pub(crate) fn refer(tasks: Tasks, queues: Queues, object: usize) -> Effect
+pub(crate) fn refer(tasks: Tasks, queues: Queues, object: usize) -> Effect<Queues>
     requires { TasksHeld.Held tasks × Held queues × (object < length (queues_of queues)) }
     ensures { result ≡ effect_as (entries_of tasks) (Model.effect (Model.tells (told (entries_of tasks) (waits_of tasks) (queues_of queues) (suc object))) (waits_of tasks) (queues_of queues)) }
 {
@@ -186,7 +141,7 @@ pub(crate) fn refer(tasks: Tasks, queues: Queues, object: usize) -> Effect
             vector,
         },
         tasks,
-        queues,
+        records: queues,
     }
 }
 
@@ -206,16 +161,24 @@ pub fn operation(request: QueueRequest) -> Operation
 }
 
 // What a request does, by what its checks found.
-pub fn act(tasks: Tasks, queues: Queues, check: Check, request: QueueRequest) -> Effect
+pub fn act(
+    tasks: Tasks,
+    queues: Queues,
+    check: Result<Admitted, Error>,
+    request: QueueRequest,
+) -> Effect<Queues>
     requires { TasksHeld.Held tasks × Held queues × Passed tasks (length (queues_of queues)) check }
     ensures { result ≡ acted tasks queues (act_of request) check }
 {
-    match check {
-        Check::Refused(code) => refused(tasks, queues, code),
-        Check::Admitted(task, object) => match request {
-            QueueRequest::Own(call) => own(tasks, queues, task, object, call),
-            QueueRequest::Refer => refer(tasks, queues, object),
-            QueueRequest::SetVector(vector) => done(tasks, queues.set_vector(object, vector), 0),
-        },
+    let Admitted { task, object } = match check {
+        Ok(admitted) => admitted,
+        Err(error) => return Effect::refused(tasks, queues, error),
+    };
+    match request {
+        QueueRequest::Own(call) => own(tasks, queues, task, object, call),
+        QueueRequest::Refer => refer(tasks, queues, object),
+        QueueRequest::SetVector(vector) => {
+            Effect::done(tasks, queues.set_vector(object, vector), 0)
+        }
     }
 }

@@ -6,12 +6,12 @@ ghost use Rattle.model.specs.Queues.{words_used, new_queue};
 ghost use Rattle.dataqueue.specs.View.{queues_of};
 ghost use Rattle.dataqueue.specs.Form.{queues_as};
 ghost use Rattle.dataqueue.specs.Held.{Held};
-ghost use Rattle.model.specs.Answers.{result_of};
+ghost use Rattle.model.specs.Checks.{passed};
 ghost use Rattle.dataqueue.specs.Entries.{entry_check};
 
 use crate::state::{Queue, Queues};
-use access::vector::{Choice, Vector};
-use itron::code::{E_NOMEM, E_OK, E_PAR, E_RSATR};
+use access::vector::Vector;
+use itron::error::Error;
 use itron::limit::{MAX_CAPACITY, MAX_WORDS};
 use model::attribute;
 
@@ -21,7 +21,7 @@ pub struct QueueEntry {
     pub domain: i32,
     pub attribute: u32,
     pub capacity: u32,
-    pub vector: Choice,
+    pub vector: Option<Vector>,
 }
 
 impl Queues {
@@ -39,23 +39,23 @@ impl Queues {
         queue.first + queue.capacity
     }
 
-    // The checks of an entry's own numbers; E_OK where none hits.
-    pub fn check(self, attribute: u32, capacity: u32) -> i32
+    // The checks of an entry's own numbers, first hit wins.
+    pub fn check(self, attribute: u32, capacity: u32) -> Result<(), Error>
         requires { Held self }
-        ensures { result ≡ result_of (entry_check (queues_of self) attribute capacity) }
+        ensures { result ≡ passed (entry_check (queues_of self) attribute capacity) }
     {
         if !attribute::is_order(attribute) {
-            return E_RSATR;
+            return Err(Error::Rsatr);
         }
         if MAX_CAPACITY < capacity {
-            return E_PAR;
+            return Err(Error::Par);
         }
         let used = self.words_used();
         let more = capacity as usize;
         if MAX_WORDS < used + more {
-            return E_NOMEM;
+            return Err(Error::Nomem);
         }
-        E_OK
+        Ok(())
     }
 
     // One queue more, which is empty.
@@ -89,8 +89,7 @@ impl Queues {
         requires { Held self × (length (queues_of self) < max_queues) × (words_used (queues_of self) + given.capacity ≤ max_words) }
         ensures { result ≡ queues_as (queues_of self ++ (new_queue given.domain given.attribute given.capacity given.vector ∷ [])) }
     {
-        let choice = given.vector;
-        let vector = choice.resolve(given.domain);
+        let vector = Vector::resolved(given.vector, given.domain);
         self.add(given.domain, given.attribute, given.capacity, vector)
     }
 }

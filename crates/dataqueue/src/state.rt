@@ -11,6 +11,7 @@ ghost use Rattle.dataqueue.specs.Held.{Held};
 
 use access::domain;
 use access::vector::Vector;
+use itron::error::Error;
 use itron::limit::{MAX_QUEUES, MAX_WORDS};
 use model::check::Target;
 
@@ -85,20 +86,17 @@ impl Queues {
     }
 
     // Which queue a number names.
-    pub fn find(self, id: i32) -> Target
+    pub fn find(self, id: i32) -> Result<Target, Error>
         requires { Held self }
         ensures { result ≡ target_in room (queues_of self) (no id) }
     {
-        let ordinal = domain::ordinal(id, MAX_QUEUES);
-        if ordinal == 0 {
-            return Target::OutOfRange;
-        }
+        let ordinal = domain::ordinal(id, MAX_QUEUES).ok_or(Error::Id)?;
         if self.count < ordinal {
-            return Target::Missing;
+            return Err(Error::Noexs);
         }
         let object = ordinal - 1;
         let vector = self.vector(object);
-        Target::At(object, vector)
+        Ok(Target { object, vector })
     }
 
     // Set-vector: all four patterns are replaced.

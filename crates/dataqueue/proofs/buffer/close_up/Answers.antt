@@ -10,38 +10,11 @@ use Rattle.arrays.proofs.Fills.{filled, fill_step, fill_ahead}
 use Rattle.dataqueue.proofs.CloseUp.{close_length, close_move, close_last, close_start, close_end}
 use Rattle.dataqueue.proofs.buffer.close_up.Goals as goal
 
-pub overflow_add-last : goal.overflow_add-last
-overflow_add-last c = omega arith
-
-pub overflow_sub-last : goal.overflow_sub-last
-overflow_sub-last c = omega arith
-
 pub loop-i-init : goal.loop-i-init
 loop-i-init c =
     let a = c.args in
     let l = c.requires.2 in
     (omega arith, omega arith, sym (close_start a.first a.len a.word a.words.now (omega arith)))
-
-pub overflow_add-words : goal.overflow_add-words
-overflow_add-words c = omega arith
-
-pub offset_bounds-words-i : goal.offset_bounds-words-i
-offset_bounds-words-i c = omega arith
-
-pub bounds-words-i : goal.bounds-words-i
-bounds-words-i c = omega arith
-
-pub offset_bounds-words-i-in-loop-i : goal.offset_bounds-words-i-in-loop-i
-offset_bounds-words-i-in-loop-i c = omega arith
-
-pub bounds-words-i-in-loop-i : goal.bounds-words-i-in-loop-i
-bounds-words-i-in-loop-i c = omega arith
-
-pub overflow_add-i : goal.overflow_add-i
-overflow_add-i c = omega arith
-
-pub loop-i-smaller : goal.loop-i-smaller
-loop-i-smaller c = omega arith
 
 pub loop-i-preserved : goal.loop-i-preserved
 loop-i-preserved c =
@@ -55,12 +28,6 @@ loop-i-preserved c =
     let w = v.2 in
     let g : get_or c.loop-i.words (i + 1) 0 ≡ get_or o (i + 1) 0 = ap (λ (z : List ℕ). get_or z (i + 1) 0) w ∙ fill_ahead r o i (i + 1) 0 (omega arith) (omega arith) (omega arith) in
     (omega arith, omega arith, (λ j. set (w j) i (g j)) ∙ fill_step r o i (get_or o (i + 1) 0) 0 n (omega arith) (close_move a.first a.len a.word o i (omega arith) (omega arith) (omega arith)))
-
-pub offset_bounds-words-last : goal.offset_bounds-words-last
-offset_bounds-words-last c = omega arith
-
-pub bounds-words-last : goal.bounds-words-last
-bounds-words-last c = omega arith
 
 pub returns : goal.returns
 returns c =

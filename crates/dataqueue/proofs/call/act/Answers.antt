@@ -1,56 +1,7 @@
 -- `call::act` meets its contract. Assumes nothing.
-use borrow.Author.Rules.{rules}
-use Prim.Native.Nat.{◌<◌}
-use mathlib.Core.Path.{◌≡◌, sym, ap, ◌∙◌}
-use lib.ListN.{length}
-use mir.Syntax.{w32}
-use mir.Val.{to_z, of_z}
-use Rattle.model.specs.Queues.{act_of}
-use Rattle.tasks.specs.View.{entries_of, waits_of}
-use Rattle.tasks.specs.Held.{Free}
-use Rattle.tasks.proofs.Rooms.{gives_by}
-use Rattle.dataqueue.specs.View.{queues_of}
-use Rattle.dataqueue.specs.Form.{queues_as}
-use Rattle.dataqueue.specs.Effects.{refused_with, acted}
-use Rattle.dataqueue.proofs.Effects.{effect, is_refer_lem, does_asked}
 use Rattle.dataqueue.proofs.call.act.Goals as goal
 
 pub own-requires : goal.own-requires
 own-requires c =
-    let free : let a = c.args in Free (entries_of a.tasks) (waits_of a.tasks) c.in-Admitted.task = c.requires.2.free _ _ c.in-Admitted.is in
-    let there : c.in-Admitted.object < length (queues_of c.args.queues) = c.requires.2.there _ _ c.in-Admitted.is in
     let p = c.requires in
-    (p.0, p.1, free, there)
-
-pub refer-requires : goal.refer-requires
-refer-requires c =
-    let there : c.in-Admitted.object < length (queues_of c.args.queues) = c.requires.2.there _ _ c.in-Admitted.is in
-    let p = c.requires in
-    (p.0, p.1, there)
-
-pub set_vector-requires : goal.set_vector-requires
-set_vector-requires c =
-    let there : c.in-Admitted.object < length (queues_of c.args.queues) = c.requires.2.there _ _ c.in-Admitted.is in
-    (c.requires.1, there)
-
-pub returns-in-Refused : goal.returns-in-Refused
-returns-in-Refused c =
-    let a = c.args in
-    let d = c.in-Refused.code in
-    let e : to_z w32 (of_z w32 d) ≡ d = search rules in
-    c.refused.ensures ∙ ap (refused_with a.tasks a.queues) e ∙ ap (acted a.tasks a.queues (act_of a.request)) (sym c.in-Refused.is)
-
-pub returns-in-Own : goal.returns-in-Own
-returns-in-Own c =
-    let a = c.args in
-    does_asked a.tasks a.queues _ _ c.in-Own.is c.in-Admitted.is c.own.ensures
-
-pub returns-in-Refer : goal.returns-in-Refer
-returns-in-Refer c =
-    let a = c.args in
-    does_asked a.tasks a.queues _ _ (is_refer_lem a.request c.in-Refer.in-Refer-own.keys2) c.in-Admitted.is c.refer.ensures
-
-pub returns-in-SetVector : goal.returns-in-SetVector
-returns-in-SetVector c =
-    let a = c.args in
-    does_asked a.tasks a.queues _ _ c.in-SetVector.is c.in-Admitted.is (c.done.ensures ∙ gives_by queues_as effect c.requires.0 c.set_vector.ensures 0)
+    (p.0, p.1, p.2.free c.in-Ok.admitted c.in-Ok.is, p.2.there c.in-Ok.admitted c.in-Ok.is)
