@@ -24,7 +24,6 @@ use Rattle.model.proofs.Lists.{and_right, no_both, both}
 use Rattle.model.proofs.Rooms.{calls_of, passed}
 use Rattle.std.specs.Prelude.{Option as Optional, Some, None, Result, Ok, Err as Refused, unwrap_or}
 use Rattle.model.specs.declared.check.Admitted.{Admitted}
-use Rattle.model.specs.declared.check.Target.{Target}
 use Rattle.tasks.specs.declared.wait.Caller.{Caller}
 use Rattle.tasks.specs.Held.{Free, Passed}
 use Rattle.kernel.specs.declared.state.State.{State}

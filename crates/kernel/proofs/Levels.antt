@@ -16,8 +16,7 @@ use Rattle.model.specs.Answers.{Out, plain, no_info, refuse_if}
 use Rattle.model.specs.ExtendedCalls.{level_check, level_after, check, of_level}
 use Rattle.model.specs.Calls.{call, on_level, act_if, step}
 use Rattle.model.specs.declared.svc.ExtendedCall.{ExtendedCall}
-use Rattle.std.specs.Prelude.{Some, None, Result, Ok, Err as Refused}
-use Rattle.tasks.specs.declared.wait.Caller.{Caller}
+use Rattle.std.specs.Prelude.{None, Result, Ok, Err as Refused}
 use Rattle.levels.specs.declared.state.Levels.{Levels}
 use Rattle.levels.specs.Form.{levels_as, with_level}
 use Rattle.levels.specs.Effects.{acted_by, acted}
@@ -75,7 +74,7 @@ module _ {s : State} (v : Valid s) where
         k = level_after c (level_at (view_of s) (no z))
 
         go : (o : Option Err) → acted_by s.levels task o k ≡ levels_given (by o)
-        go (some e) = refl
+        go (some e) = λ i. Refused e
         go none = ap (λ (x : Levels). Ok x) (with_seen task k n.low ∙ ap (λ (t : ℕ). levels_as (put (view_of s).levels t k)) (sym n.names))
 
     -- ---- the whole promise

@@ -6,7 +6,7 @@ use Rattle.access.specs.Vectors.{pattern_of}
 use Rattle.access.specs.declared.vector.Operation.{Operation}
 use Rattle.itron.specs.Codes.{Code, ok, waiting, error, ok_number, number_of}
 use Rattle.itron.specs.declared.error.Error.{Error as Err}
-use Rattle.itron.specs.declared.error.Error.TheVariants.{Ctx as e_ctx, Noid as e_noid, Id as e_id, Noexs as e_noexs, Oacv as e_oacv}
+use Rattle.itron.specs.declared.error.Error.TheVariants.{Ctx as e_ctx, Noid as e_noid, Id as e_id, Oacv as e_oacv}
 use Rattle.model.specs.Lists.{index}
 use Rattle.model.specs.State as Model
 use Rattle.model.specs.State.{running_at, no}

@@ -44,13 +44,7 @@ impl State {
     }
 
     // Whether a domain may use an area as it wishes.
-    pub(crate) fn verdict(
-        self,
-        domain: i32,
-        base: u32,
-        size: u32,
-        wishes: u32,
-    ) -> Result<(), Error>
+    pub(crate) fn verdict(self, domain: i32, base: u32, size: u32, wishes: u32) -> Result<(), Error>
         requires { Valid self }
         ensures { result ≡ passed (verdict (view_of self) domain base size wishes) }
     {
@@ -127,7 +121,10 @@ impl State {
         requires { Valid self }
         ensures { result.now ≡ handed_bytes (view_of self) domain base size (image bases.flash flash.now) (image bases.ram ram.now) }
     {
-        if self.hand_out(domain, base, size, bases, flash, ram).is_err() {
+        if self
+            .hand_out(domain, base, size, bases, flash, ram)
+            .is_err()
+        {
             return &flash[0..0];
         }
         part(bases, flash, ram, base, size)

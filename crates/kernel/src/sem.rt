@@ -51,7 +51,12 @@ impl State {
     }
 
     // What a request does to the tasks and the semaphores.
-    pub(crate) fn semaphore_effect(self, caller: i32, id: i32, request: SemaphoreRequest) -> Effect<Semaphores>
+    pub(crate) fn semaphore_effect(
+        self,
+        caller: i32,
+        id: i32,
+        request: SemaphoreRequest,
+    ) -> Effect<Semaphores>
         requires { Valid self }
         ensures { result ≡ acted self.tasks self.semaphores (act_of request) (check_of room self caller id (act_of request)) }
     {
