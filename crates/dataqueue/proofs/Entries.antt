@@ -1,12 +1,14 @@
 -- The entry of a data queue. Assumes nothing.
-use Prim.Native.Nat.{ℕ, suc, ◌+◌, ◌≤◌, ◌<◌}
+use Prim.Native.Nat.{ℕ, ◌+◌, ◌-◌, ◌≤◌, ◌<◌}
 use native.Mathlib.Omega.{arith}
 use mathlib.Core.Path.{◌≡◌, refl, sym, ap, ◌∙◌}
 use mathlib.Core.List.{List, [], ◌∷◌, ◌++◌}
 use lib.IntN.{ℤ}
-use lib.ListN.{length, set, length-append}
+use lib.ListN.{length, get_or, take, set, length-append}
 use Rattle.access.specs.declared.vector.Vector.{Vector}
-use Rattle.std.specs.Prelude.{Some as Given}
+use Rattle.std.specs.Prelude.{Some}
+use Rattle.std.specs.List.{slice_get}
+use Rattle.std.proofs.lemmas.Option.{slice_get_within, get_or_from_slice_get}
 use Rattle.arrays.specs.Pad.{pad}
 use Rattle.arrays.proofs.Pads.{pad_snoc}
 use Rattle.itron.specs.Limits.{max_queues, max_words}
@@ -18,8 +20,8 @@ use Rattle.dataqueue.specs.declared.state.Queues.{Queues}
 use Rattle.dataqueue.specs.View.{queues_of}
 use Rattle.dataqueue.specs.Form.{no_record, record_of, laid, queues_as}
 use Rattle.dataqueue.specs.Held.{Held}
-use Rattle.dataqueue.proofs.Parts.{laid_length, laid_snoc, words_more, used_last}
-use Rattle.dataqueue.proofs.Links.{record_in, count_seen, record_seen}
+use Rattle.dataqueue.proofs.Parts.{start, laid_length, laid_get, laid_snoc, words_more, used_last}
+use Rattle.dataqueue.proofs.Links.{count_seen, records_seen}
 
 -- ---- one queue more
 abbrev added : Queues → Queue → Queues
@@ -40,9 +42,9 @@ add_form qs x f e h u =
 
 module _ {q : Queues} (h : Held q) where
   pub add_link : (d : ℤ) (a c f : ℕ) (v : Vector) → f ≡ words_used (queues_of q) → length (queues_of q) < max_queues → words_used (queues_of q) + c ≤ max_words
-      → added q (record_of (new_queue d a c (Given v)) f) ≡ queues_as (queues_of q ++ (new_queue d a c (Given v) ∷ []))
+      → added q (record_of (new_queue d a c (Some v)) f) ≡ queues_as (queues_of q ++ (new_queue d a c (Some v) ∷ []))
   add_link d a c f v e l u =
-      let x = new_queue d a c (Given v) in
+      let x = new_queue d a c (Some v) in
       (λ i. added (h.form i) (record_of x (e i))) ∙ add_form (queues_of q) x h.fit refl l u
 
   pub used_none : q.count ≡ 0 → 0 ≡ words_used (queues_of q)
@@ -52,7 +54,17 @@ module _ {q : Queues} (h : Held q) where
       go [] e = refl
       go (x ∷ l) e = absurd (omega arith)
 
-  pub used_some : (k : ℕ) → q.count ≡ suc k → (record_in q k).first + (record_in q k).capacity ≡ words_used (queues_of q)
-  used_some k e =
-      let n = count_seen h in
-      ap (λ (r : Queue). r.first + r.capacity) (record_seen h k (omega arith)) ∙ used_last (queues_of q) k (omega arith)
+  module _ {r : Queue} (e : slice_get (take q.count q.records) (length (take q.count q.records) - 1) ≡ Some r) where
+    pub used_some : r.first + r.capacity ≡ words_used (queues_of q)
+    used_some =
+        let qs = queues_of q in
+        let l = take q.count q.records in
+        let k = length l - 1 in
+        let n : length l ≡ length qs = ap (λ (x : List Queue). length x) (records_seen h) ∙ laid_length 0 qs in
+        let b = slice_get_within l k r e in
+        let s : r ≡ record_of (get_or qs k Model.no_queue) (0 + start qs k) =
+        sym (get_or_from_slice_get l k r no_record e) ∙ ap (λ (x : List Queue). get_or x k no_record) (records_seen h) ∙ laid_get 0 qs k (omega (arith, n, b)) in
+        omega (arith, ap (λ (x : Queue). x.first + x.capacity) s, used_last qs k (omega (arith, n, b)))
+
+    pub used_low : r.first + r.capacity ≤ max_words
+    used_low = omega (arith, used_some, h.fit.words)

@@ -2,28 +2,26 @@
 use Prim.Native.Nat.{ℕ, zero, suc, ◌+◌, ◌-◌, ◌≤◌, ◌<◌}
 use native.Mathlib.Omega.{arith}
 use mathlib.Core.Path.{◌≡◌, refl, sym, ap, ◌∙◌, subst}
-use mathlib.Core.Logic.{◌≢◌}
 use mathlib.Core.List.{List, [], ◌∷◌, ◌++◌, map}
-use lib.ListN.{length, get_or, take, drop, set, length-append, length-set, length-drop, get_or-eq_default}
-use lib.Seq.{get_or-take, get_or-drop, length-take-le, set-get_or}
+use lib.ListN.{length, get_or, take, drop, set, length-append, length-set, length-drop}
+use lib.Seq.{get_or-take, get_or-drop, set-get_or}
 use Rattle.access.specs.declared.vector.Vector.{Vector}
 use Rattle.arrays.specs.Pad.{pad}
-use Rattle.arrays.proofs.Pads.{pad_get, pad_set, pad_length}
+use Rattle.arrays.proofs.Pads.{pad_get, pad_set, pad_take}
 use Rattle.itron.specs.Limits.{max_queues, max_words}
 use Rattle.model.specs.State as Model
-use Rattle.model.specs.Lists.{at}
+use Rattle.model.specs.Lists.{at, All}
 use Rattle.model.specs.Rooms.{set_vector_of}
-use Rattle.model.specs.Queues.{room, queue_in, set_buffer}
-use Rattle.model.specs.Conditions.{QueuesFit}
+use Rattle.model.specs.Queues.{room, queue_in, set_buffer, words_used}
+use Rattle.model.specs.Conditions.{BufferFits, QueuesFit}
 use Rattle.model.proofs.Fits.{buffer_fits}
 use Rattle.dataqueue.specs.declared.state.Queue.{Queue}
 use Rattle.dataqueue.specs.declared.state.Queues.{Queues}
-use Rattle.dataqueue.specs.declared.state.QueueInfo.{QueueInfo}
 use Rattle.dataqueue.specs.View.{queue_seen, queues_of}
 use Rattle.dataqueue.specs.Form.{no_record, record_of, laid, spread, queues_as}
 use Rattle.dataqueue.specs.Held.{Held}
 use Rattle.dataqueue.specs.Buffers.{close_up}
-use Rattle.dataqueue.proofs.Parts.{start, laid_length, laid_get, laid_set, laid_info, part_fits, part_pop, part_refill, words_push, words_close, spread_keep}
+use Rattle.dataqueue.proofs.Parts.{start, laid_length, laid_get, laid_set, part_fits, part_pop, part_refill, words_push, words_close, spread_keep}
 
 -- ---- the queues with one record and the words replaced
 abbrev pub with_parts : Queues → ℕ → Queue → List ℕ → Queues
@@ -130,9 +128,43 @@ module _ {q : Queues} (h : Held q) where
   unfolding queues_as
   count_seen = ap (λ (x : Queues). x.count) h.form
 
-  records_long : length q.records ≡ max_queues
+  -- the records are those of the queues
+  pub records_seen : take q.count q.records ≡ laid 0 (queues_of q)
   unfolding queues_as
-  records_long = ap (λ (x : Queues). length x.records) h.form ∙ pad_length no_record max_queues (laid 0 (queues_of q)) (let a = laid_length 0 (queues_of q) in let b = h.fit.few in omega arith)
+  records_seen =
+      let l = laid_length 0 (queues_of q) in
+      (λ i. take (h.form i).count (h.form i).records)
+      ∙ ap (λ (n : ℕ). take n (pad max_queues no_record (laid 0 (queues_of q)))) (sym l)
+      ∙ pad_take no_record max_queues (laid 0 (queues_of q))
+
+  -- the record with a number, with its words, is the queue with that number
+  pub queue_seen_at : (n : ℕ) → queue_in (queues_of q) n ≡ queue_seen q.words (at no_record (laid 0 (queues_of q)) n)
+  unfolding queues_of
+  queue_seen_at zero = refl
+  queue_seen_at (suc k) = row (take q.count q.records) k ∙ ap (λ (l : List Queue). queue_seen q.words (get_or l k no_record)) records_seen
+    where
+      row : (l : List Queue) (k : ℕ) → get_or (map (queue_seen q.words) l) k Model.no_queue ≡ queue_seen q.words (get_or l k no_record)
+      row [] k = refl
+      row (x ∷ l) zero = refl
+      row (x ∷ l) (suc k) = row l k
+
+  -- its words lie in the array, also where there is none
+  pub part_at : (n : ℕ) → (at no_record (laid 0 (queues_of q)) n).first + (at no_record (laid 0 (queues_of q)) n).len ≤ max_words
+  part_at zero = omega arith
+  part_at (suc k) = go 0 (queues_of q) k h.fit.buffers (let w = h.fit.words in omega arith)
+    where
+      go : (f : ℕ) (l : List Model.Queue) (k : ℕ) → All BufferFits l → f + words_used l ≤ max_words → (get_or (laid f l) k no_record).first + (get_or (laid f l) k no_record).len ≤ max_words
+      go f [] k a u = omega arith
+      go f (x ∷ l) zero a u = omega (arith, a.0, u)
+      go f (x ∷ l) (suc k) a u = go (f + x.capacity) l k a.1 (omega (arith, u))
+
+  record_row : (k : ℕ) → record_in q k ≡ get_or (laid 0 (queues_of q)) k no_record
+  unfolding queues_as
+  record_row k = ap (λ (x : Queues). record_in x k) h.form ∙ pad_get no_record max_queues (laid 0 (queues_of q)) k
+
+  pub record_at : (n k : ℕ) → 1 ≤ n → k ≡ n - 1 → record_in q k ≡ at no_record (laid 0 (queues_of q)) n
+  record_at zero k l e = absurd (omega arith)
+  record_at (suc i) k l e = let z : k ≡ i = omega arith in ap (record_in q) z ∙ record_row i
 
   module _ (k : ℕ) (l : k < length (queues_of q)) where
     pub record_seen : record_in q k ≡ record_of (queue_in (queues_of q) (suc k)) (start (queues_of q) k)
@@ -150,21 +182,6 @@ module _ {q : Queues} (h : Held q) where
         let b = buffer_fits h.fit (suc k) in
         (omega arith, omega arith)
 
-    pub word_seen : (i : ℕ) → i < (record_in q k).len → get_or q.words ((record_in q k).first + i) 0 ≡ get_or (queue_in (queues_of q) (suc k)).buffer i 0
-    unfolding queues_of
-    word_seen i b =
-        let r = record_in q k in
-        let n = count_seen in
-        let long : q.count ≤ length q.records = let a = records_long in let b = h.few in omega arith in
-        let e : get_or (queues_of q) k Model.no_queue ≡ queue_seen q.words r =
-        row (take q.count q.records) k (rw (length-take-le q.count q.records long) (omega arith)) ∙ ap (queue_seen q.words) (get_or-take q.count q.records k no_record (omega arith)) in
-        sym (ap (λ (x : Model.Queue). get_or x.buffer i 0) e ∙ get_or-take r.len (drop r.first q.words) i 0 b ∙ get_or-drop r.first q.words i 0)
-      where
-        row : (l : List Queue) (k : ℕ) → k < length l → get_or (map (queue_seen q.words) l) k Model.no_queue ≡ queue_seen q.words (get_or l k no_record)
-        row [] k h = absurd (omega arith)
-        row (x ∷ l) zero h = refl
-        row (x ∷ l) (suc k) h = row l k (omega arith)
-
     -- a buffer that has room
     pub room_seen : (record_in q k).len < (record_in q k).capacity → length (queue_in (queues_of q) (suc k)).buffer < (queue_in (queues_of q) (suc k)).capacity
     room_seen r = subst (λ (x : Queue). x.len < x.capacity) record_seen r
@@ -173,11 +190,26 @@ module _ {q : Queues} (h : Held q) where
     pub some_seen : 0 < (record_in q k).len → 0 < length (queue_in (queues_of q) (suc k)).buffer
     some_seen r = subst (λ (x : Queue). 0 < x.len) record_seen r
 
+    -- where a word goes into a buffer that has room
+    pub room_low : length (queue_in (queues_of q) (suc k)).buffer < (queue_in (queues_of q) (suc k)).capacity → (record_in q k).first + (record_in q k).len < max_words
+    room_low r =
+        let n = ap (λ (x : Queue). x.len) record_seen in
+        let c = ap (λ (x : Queue). x.capacity) record_seen in
+        omega (arith, r, n, c, record_part.0)
+
+    -- where a buffer that has a word stands
+    pub buffer_some : 0 < length (queue_in (queues_of q) (suc k)).buffer → 0 < (record_in q k).len
+    buffer_some r = let n = ap (λ (x : Queue). x.len) record_seen in omega (arith, r, n)
+
+    pub buffer_low : (record_in q k).first + (record_in q k).len ≤ max_words
+    buffer_low = let p = record_part in omega (arith, p.0, p.1)
+
     pub oldest_seen : 0 < (record_in q k).len → get_or q.words (record_in q k).first 0 ≡ get_or (queue_in (queues_of q) (suc k)).buffer 0 0
     oldest_seen r =
         let f = (record_in q k).first in
+        let e : (queue_in (queues_of q) (suc k)).buffer ≡ take (record_in q k).len (drop f q.words) = ap (λ (x : Model.Queue). x.buffer) (queue_seen_at (suc k)) ∙ ap (λ (x : Queue). take x.len (drop x.first q.words)) (sym (record_row k)) in
         let z : f ≡ f + 0 = omega arith in
-        ap (λ (i : ℕ). get_or q.words i 0) z ∙ word_seen 0 r
+        ap (λ (i : ℕ). get_or q.words i 0) z ∙ sym (ap (λ (b : List ℕ). get_or b 0 0) e ∙ get_or-take (record_in q k).len (drop f q.words) 0 0 r ∙ get_or-drop f q.words 0 0)
 
     pub push_link : (w : ℕ) → length (queue_in (queues_of q) (suc k)).buffer < (queue_in (queues_of q) (suc k)).capacity → pushed q k w ≡ queues_as (set_buffer (queues_of q) (suc k) ((queue_in (queues_of q) (suc k)).buffer ++ (w ∷ [])))
     push_link w r = ap (λ (x : Queues). pushed x k w) h.form ∙ push_form (queues_of q) k l h.fit w r
@@ -190,43 +222,3 @@ module _ {q : Queues} (h : Held q) where
 
     pub vector_link : (v : Vector) → turned q k v ≡ queues_as (set_vector_of room (queues_of q) (suc k) v)
     vector_link v = ap (λ (x : Queues). turned x k v) h.form ∙ vector_form (queues_of q) k l v
-
-  -- the record with a number
-  pub record_none : (n : ℕ) → q.count < n → no_record ≡ at no_record (laid 0 (queues_of q)) n
-  record_none zero l = absurd (omega arith)
-  record_none (suc i) l = let n = count_seen in sym (get_or-eq_default (laid 0 (queues_of q)) no_record (let e = laid_length 0 (queues_of q) in omega arith))
-
-  pub record_at : (n : ℕ) → n ≢ 0 → record_in q (n - 1) ≡ at no_record (laid 0 (queues_of q)) n
-  unfolding queues_as
-  record_at zero l = absurd (l refl)
-  record_at (suc i) l =
-      let z : suc i - 1 ≡ i = omega arith in
-      (λ j. record_in (h.form j) (z j)) ∙ pad_get no_record max_queues (laid 0 (queues_of q)) i
-
-  module _ (n k : ℕ) {r : Queue} (e : r ≡ at no_record (laid 0 (queues_of q)) n) where
-    -- past the buffered words
-    pub word_none : r.len ≤ k → 0 ≡ get_or (queue_in (queues_of q) n).buffer k 0
-    word_none l =
-        let a = ap (λ (x : Queue). x.len) e in
-        let b = ap (λ (x : QueueInfo). x.count) (laid_info 0 (queues_of q) n) in
-        sym (get_or-eq_default (queue_in (queues_of q) n).buffer 0 (omega arith))
-
-    -- one of them
-    pub word_at : k < r.len → (r.first + k < max_words) × (get_or q.words (r.first + k) 0 ≡ get_or (queue_in (queues_of q) n).buffer k 0)
-    word_at l = go n e
-      where
-        low : (f : ℕ) (qs : List Model.Queue) (i : ℕ) → k < (get_or (laid f qs) i no_record).len → i < length qs
-        low f [] i h = absurd (omega arith)
-        low f (x ∷ qs) zero h = omega arith
-        low f (x ∷ qs) (suc i) h = let b = low (f + x.capacity) qs i h in omega arith
-
-        go : (n : ℕ) → r ≡ at no_record (laid 0 (queues_of q)) n → (r.first + k < max_words) × (get_or q.words (r.first + k) 0 ≡ get_or (queue_in (queues_of q) n).buffer k 0)
-        go zero e = absurd (let z = ap (λ (x : Queue). x.len) e in omega arith)
-        go (suc i) e =
-            let b = low 0 (queues_of q) i (let z = ap (λ (x : Queue). x.len) e in omega arith) in
-            let z : suc i - 1 ≡ i = omega arith in
-            let s : r ≡ record_in q i = e ∙ sym (record_at (suc i) (λ y. omega arith)) ∙ ap (record_in q) z in
-            let m = ap (λ (x : Queue). x.len) s in
-            let p = record_part i b in
-            let f = ap (λ (x : Queue). x.first) s in
-            (omega arith, ap (λ (j : ℕ). get_or q.words (j + k) 0) f ∙ word_seen i b k (omega arith))

@@ -189,13 +189,16 @@ spread_snoc [] q e = append-nil (pad q.capacity 0 q.buffer) ∙ (λ i. pad q.cap
 spread_snoc (x ∷ qs) q e = ap (λ (l : List ℕ). pad x.capacity 0 x.buffer ++ l) (spread_snoc qs q e) ∙ sym (append_assoc (pad x.capacity 0 x.buffer) (spread qs) (replicate q.capacity 0))
 
 -- zeros taken for a part are the zeros that were there
+zeros_split : (l : List ℕ) (n c k : ℕ) → n ≡ c + k → l ++ replicate n 0 ≡ (l ++ replicate c 0) ++ replicate k 0
+zeros_split l n c k e =
+    ap (λ (j : ℕ). l ++ replicate j 0) e
+    ∙ ap (λ (z : List ℕ). l ++ z) (sym (replicate-append-replicate c k 0))
+    ∙ sym (append_assoc l (replicate c 0) (replicate k 0))
+
 pad_zeros : (n : ℕ) (l : List ℕ) (c : ℕ) → length l + c ≤ n → pad n 0 l ≡ pad n 0 (l ++ replicate c 0)
 pad_zeros n l c h =
     let m : length (l ++ replicate c 0) ≡ length l + c = length-append l (replicate c 0) ∙ ap (λ (k : ℕ). length l + k) (length-replicate c 0) in
-    let e : n - length l ≡ c + (n - length (l ++ replicate c 0)) = omega arith in
-    ap (λ (k : ℕ). l ++ replicate k 0) e
-    ∙ ap (λ (z : List ℕ). l ++ z) (sym (replicate-append-replicate c (n - length (l ++ replicate c 0)) 0))
-    ∙ sym (append_assoc l (replicate c 0) (replicate (n - length (l ++ replicate c 0)) 0))
+    zeros_split l (n - length l) c (n - length (l ++ replicate c 0)) (omega arith)
 
 pub words_more : (qs : List Model.Queue) (q : Model.Queue) → All BufferFits qs → q.buffer ≡ [] → words_used qs + q.capacity ≤ max_words
     → pad max_words 0 (spread qs) ≡ pad max_words 0 (spread (qs ++ (q ∷ [])))

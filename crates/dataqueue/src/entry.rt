@@ -26,17 +26,15 @@ pub struct QueueEntry {
 
 impl Queues {
     // The words that all queues together can hold: where the part of the next one starts.
+    #[tactic(auto, using(crate::proofs::Entries::used_none, crate::proofs::Entries::used_some, crate::proofs::Entries::used_low))]
     pub(crate) fn words_used(self) -> usize
         requires { Held self }
         ensures { result ≡ words_used (queues_of self) }
     {
-        let count = self.count;
-        if count == 0 {
-            return 0;
+        match self.records[..self.count].last() {
+            Some(queue) => queue.first + queue.capacity,
+            None => 0,
         }
-        let last = count - 1;
-        let queue = self.records[last];
-        queue.first + queue.capacity
     }
 
     // The checks of an entry's own numbers, first hit wins.
@@ -50,15 +48,14 @@ impl Queues {
         if MAX_CAPACITY < capacity {
             return Err(Error::Par);
         }
-        let used = self.words_used();
-        let more = capacity as usize;
-        if MAX_WORDS < used + more {
+        if MAX_WORDS < self.words_used() + capacity as usize {
             return Err(Error::Nomem);
         }
         Ok(())
     }
 
     // One queue more, which is empty.
+    #[tactic(auto, using(crate::proofs::Links::count_seen, crate::proofs::Entries::add_link))]
     pub(crate) fn add(
         mut self,
         domain: i32,
@@ -69,18 +66,16 @@ impl Queues {
         requires { Held self × (length (queues_of self) < max_queues) × (words_used (queues_of self) + capacity ≤ max_words) }
         ensures { result ≡ queues_as (queues_of self ++ (new_queue domain attribute capacity (Given vector) ∷ [])) }
     {
-        let at = self.count;
         let first = self.words_used();
-        let capacity = capacity as usize;
-        self.records[at] = Queue {
+        self.records[self.count] = Queue {
             domain,
             attribute,
             first,
             len: 0,
-            capacity,
+            capacity: capacity as usize,
             vector,
         };
-        self.count = at + 1;
+        self.count += 1;
         self
     }
 

@@ -58,6 +58,7 @@ pub struct QueueInfo {
 
 impl Queues {
     // No queue.
+    #[tactic(auto, unfolding(crate::specs::Form::queues_as))]
     pub fn empty() -> Queues
         ensures { result ≡ queues_as [] }
     {
@@ -69,6 +70,7 @@ impl Queues {
     }
 
     // How many queues there are.
+    #[tactic(auto, using(crate::proofs::Links::count_seen))]
     pub fn len(self) -> usize
         requires { Held self }
         ensures { result ≡ length (queues_of self) }
@@ -77,12 +79,12 @@ impl Queues {
     }
 
     // The vector that calls on a queue are judged by.
+    #[tactic(auto, using(crate::proofs::Links::record_seen))]
     pub(crate) fn vector(self, object: usize) -> Vector
         requires { Held self × (object < length (queues_of self)) }
         ensures { result ≡ (queue_in (queues_of self) (suc object)).vector }
     {
-        let queue = self.records[object];
-        queue.vector
+        self.records[object].vector
     }
 
     // Which queue a number names.
@@ -100,29 +102,25 @@ impl Queues {
     }
 
     // Set-vector: all four patterns are replaced.
+    #[tactic(auto, using(crate::proofs::Links::vector_link))]
     pub(crate) fn set_vector(mut self, object: usize, vector: Vector) -> Queues
         requires { Held self × (object < length (queues_of self)) }
         ensures { result ≡ queues_as (set_vector_of room (queues_of self) (suc object) vector) }
     {
-        let mut queue = self.records[object];
-        queue.vector = vector;
-        self.records[object] = queue;
+        self.records[object].vector = vector;
         self
     }
 
     // The record with a number; all zeros where there is none.
+    #[tactic(auto, using(crate::proofs::Links::record_at))]
     pub(crate) fn record_of(self, number: usize) -> Queue
         requires { Held self }
         ensures { result ≡ at no_record (laid 0 (queues_of self)) number }
     {
-        if number == 0 {
+        let Some(object) = number.checked_sub(1) else {
             return Queue::NONE;
-        }
-        if self.count < number {
-            return Queue::NONE;
-        }
-        let object = number - 1;
-        self.records[object]
+        };
+        self.records.get(object).copied().unwrap_or(Queue::NONE)
     }
 
     // The queue with a number; all zeros where there is none.
@@ -131,26 +129,23 @@ impl Queues {
         ensures { result ≡ info_of (queue_in (queues_of self) number) }
     {
         let queue = self.record_of(number);
-        let vector = queue.vector;
         QueueInfo {
             domain: queue.domain,
             attribute: queue.attribute,
             capacity: queue.capacity,
             count: queue.len,
-            vector,
+            vector: queue.vector,
         }
     }
 
     // The buffered word with k older ones before it; 0 where there is none.
+    #[tactic(auto, using(crate::proofs::Links::part_at, crate::proofs::Links::queue_seen_at))]
     pub fn word(self, number: usize, k: usize) -> u32
         requires { Held self }
         ensures { result ≡ get_or (queue_in (queues_of self) number).buffer k 0 }
     {
         let queue = self.record_of(number);
-        if queue.len <= k {
-            return 0;
-        }
-        let at = queue.first + k;
-        self.words[at]
+        let words = &self.words[queue.first..queue.first + queue.len];
+        words.get(k).copied().unwrap_or(0)
     }
 }
