@@ -40,11 +40,11 @@ pub returns-in-Ready : goal.returns-in-Ready
 returns-in-Ready c =
     let s = c.args.self in
     let k = c.in_ok-ordinal.ordinal in
-    let e : to_z w32 (of_z w32 c.domain-domain.result) ≡ c.domain-domain.result = search rules in
-    ap (λ z. Some (record { task = k - 1; domain = z })) (e ∙ c.domain-domain.ensures)
+    let e : to_z w32 (of_z w32 c.domain.result) ≡ c.domain.result = search rules in
+    ap (λ z. Some (record { task = k - 1; domain = z })) (e ∙ c.domain.ensures)
     ∙ caller_ready c.requires c.args.number k (number c.before.before.before).0 (number c.before.before.before).1 (idle (get_or s.entries (k - 1) no_task).wait c.in-Ready.in-Ready-own.keys1)
 
 pub returns-in_default : goal.returns-in_default
 returns-in_default c =
     let k = c.in_ok-ordinal.ordinal in
-    caller_busy c.requires c.args.number k (number c.before.before.before).0 (number c.before.before.before).1 (busy (get_or c.args.self.entries (k - 1) no_task).wait (opened c.in_default.in_default-own.keys2))
+    caller_busy c.requires c.args.number k (number c.before.before).0 (number c.before.before).1 (busy (get_or c.args.self.entries (k - 1) no_task).wait (opened c.in_default.in_default-own.keys2))
