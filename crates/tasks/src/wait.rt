@@ -143,32 +143,30 @@ impl Tasks {
         let ordinal = domain::ordinal(number, self.count)?;
         let task = ordinal - 1;
         let entry = self.entries[task];
-        match entry.wait {
-            Wait::Ready => Some(Caller {
-                task,
-                domain: entry.domain(),
-            }),
-            _ => None,
+        if entry.wait != Wait::Ready {
+            return None;
         }
+        Some(Caller {
+            task,
+            domain: entry.domain(),
+        })
     }
 
     // A waiting task is released and handed a word; the caller gets E_OK and a word.
-    pub fn wake(mut self, task: usize, word: u32, handed: u32) -> Ended
+    pub fn wake(self, task: usize, word: u32, handed: u32) -> Ended
         requires { Held self × (task < length (entries_of self)) }
         ensures { result ≡ woken_of (entries_of self) (waits_of self) task word handed }
     {
-        let number = task + 1;
-        self = self.release(task);
         Ended {
             reply: Reply {
                 outcome: Outcome::Code(E_OK),
                 word,
                 released: Released {
-                    task: number,
+                    task: task + 1,
                     word: handed,
                 },
             },
-            tasks: self,
+            tasks: self.release(task),
         }
     }
 
@@ -179,11 +177,7 @@ impl Tasks {
     {
         match patience {
             Patience::Polling => Ended {
-                reply: Reply {
-                    outcome: Outcome::Code(E_TMOUT),
-                    word: 0,
-                    released: Released { task: 0, word: 0 },
-                },
+                reply: Reply::plain(E_TMOUT, 0),
                 tasks: self,
             },
             // Not stored into `self` first: measured, that costs a copy of the tasks more.

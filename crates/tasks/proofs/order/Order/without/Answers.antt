@@ -1,13 +1,12 @@
 -- `Order::without` meets its contract: the next is kept, or it is the one left out. Assumes nothing.
-use Prim.Native.Nat.{ℕ, ◌≤◌}
+use Prim.Native.Nat.{◌≤◌}
 use native.Mathlib.Omega.{arith}
 use mathlib.Core.Path.{ap, ◌∙◌}
-use mathlib.Core.List.{List}
 use lib.ListN.{length, get_or}
 use Rattle.itron.specs.Limits.{max_tasks}
 use Rattle.tasks.specs.declared.order.Order.{Order}
-use Rattle.tasks.specs.Orders.{pushed, order_of, without}
-use Rattle.std.proofs.lemmas.List.{length-take, take_all}
+use Rattle.tasks.specs.Orders.{pushed}
+use Rattle.std.proofs.lemmas.List.{length-take}
 use Rattle.tasks.proofs.Orders.{without_few, without_kept, without_left}
 use Rattle.tasks.proofs.order.Order.without.Goals as goal
 use Rattle.tasks.proofs.order.Order.without.Goals.{then-task-left, else-task-left}
@@ -29,9 +28,3 @@ loop-task-preserved c =
           w.rest-is ∙ w.push.ensures ∙ ap (λ (r : Order). pushed r (get_or o i 0)) c.loop-task.invariant ∙ without_kept a.left i o c.loop-task-test.true w.if-task-left.true l
       | else-task-left w ↦ w.rest-is ∙ c.loop-task.invariant ∙ without_left a.left i o c.loop-task-test.true w.if-task-left.false
     ]
-
-pub returns : goal.returns
-returns c =
-    let a = c.args in
-    let o = c.as_slice-all.result.now in
-    c.loop-task.invariant ∙ ap (λ (l : List ℕ). order_of (without a.left l)) (take_all c.loop-task.task-index o c.loop-task-test.false ∙ c.as_slice-all.ensures)

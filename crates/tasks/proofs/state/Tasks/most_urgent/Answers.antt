@@ -11,15 +11,12 @@ use Rattle.tasks.specs.View.{waits_of}
 use Rattle.tasks.specs.Places.{place_in}
 use Rattle.tasks.proofs.Back.{index_low}
 use Rattle.tasks.proofs.Waiters.{numbers_from, none_left, pass, here}
-use Rattle.tasks.proofs.Leads.{first_by, scan_start, scan_next, scan_pass, scan_end}
+use Rattle.tasks.proofs.Leads.{first_by, scan_next, scan_pass, scan_end}
 use Rattle.tasks.proofs.Firsts.{first_ranked}
 use Rattle.tasks.proofs.state.Tasks.most_urgent.Invariants.{rank_in}
 use Rattle.tasks.proofs.state.Tasks.most_urgent.Goals as goal
 use Rattle.tasks.proofs.state.Tasks.most_urgent.Goals.{then-is_at, else-is_at, After-map}
 use Rattle.std.proofs.lemmas.Grind.{common_steps}
-
-pub loop-task-init : goal.loop-task-init
-loop-task-init c = scan_start _ _
 
 pub bounds-self-task : goal.bounds-self-task
 bounds-self-task c = omega (arith, index_low c.requires _ c.as_slice-order.ensures _ c.loop-task-test.true)

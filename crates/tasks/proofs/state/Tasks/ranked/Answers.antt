@@ -5,14 +5,10 @@ use mathlib.Core.Path.{◌≡◌, sym, ap, ◌∙◌}
 use mathlib.Core.Bool.{true}
 use mathlib.Core.List.{map}
 use lib.ListN.{get_or}
-use Rattle.std.proofs.Math.Nat.{sub-zero}
 use Rattle.tasks.specs.Ends.{task_in, numbered}
 use Rattle.tasks.specs.Places.{place_in}
-use Rattle.tasks.proofs.Firsts.{queue_at, first_task_lem, none_behind, first_low, held_behind, behind}
+use Rattle.tasks.proofs.Firsts.{queue_at, none_behind, first_low, held_behind, behind}
 use Rattle.tasks.proofs.state.Tasks.ranked.Goals as goal
-
-pub ahead-init : goal.ahead-init
-ahead-init c = (c.requires, rw sub-zero)
 
 pub returns-in_err-task : goal.returns-in_err-task
 returns-in_err-task c =
@@ -36,9 +32,3 @@ ahead-preserved c =
       held_behind v.0 true p i e t c.release-self.ensures,
       v.1 ∙ ap (λ (m : ℕ). get_or (map task_in (queue_at c.ahead.self true p)) m 0) n ∙ behind v.0 true p i e t c.release-self.ensures (a.k - (c.ahead.counter + 1)),
     )
-
-pub returns : goal.returns
-returns c =
-    let l = queue_at c.ahead.self true (place_in c.args.place) in
-    let n : 0 ≡ c.args.k - c.ahead.counter = omega arith in
-    c.most_urgent-2.ensures ∙ sym (first_task_lem l) ∙ ap (λ (k : ℕ). get_or (map task_in l) k 0) n ∙ sym c.ahead.invariant.1
