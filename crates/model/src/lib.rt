@@ -78,7 +78,7 @@ pub enum Patience {
 }
 
 // What a task can wait for: a semaphore, to receive from a queue, or to send to one.
-#[derive(Clone, Copy)]
+#[derive(Clone, Copy, PartialEq, Eq)]
 pub enum Side {
     OnSem,
     Receiving,

@@ -15,6 +15,7 @@ use Rattle.tasks.specs.declared.task.Task.{Task}
 use Rattle.tasks.specs.declared.state.Tasks.{Tasks}
 use Rattle.tasks.specs.View.{no_task, waiter_at, entry_of, entries_of, waits_of}
 use Rattle.tasks.specs.Form.{task_as, tasks_as, tasks_from, wait_for, index_in}
+use Rattle.tasks.specs.Orders.{arrivals}
 use Rattle.tasks.specs.Held.{Held}
 use Rattle.tasks.proofs.Waits.{number_back}
 use Rattle.tasks.proofs.Entries.{entries_length, entries_seen, entries_get, entries_priority, waiters_back}
@@ -36,8 +37,7 @@ pub back_waits : (es : List TaskEntry) (ws : List Waiter) → WaitsFit es ws →
 unfolding waits_of tasks_as
 back_waits es ws f =
     let ts = pad max_tasks no_task (tasks_from 0 es ws) in
-    ap (λ (n : ℕ). map (waiter_at ts) (take n (pad max_tasks 0 (map index_in ws)))) (sym (length-map ws index_in))
-    ∙ ap (map (waiter_at ts)) (pad_take 0 max_tasks (map index_in ws))
+    ap (map (waiter_at ts)) (pad_take 0 max_tasks (map index_in ws))
     ∙ waiters_back ts (length es) ws f.distinct f.known f.plain (λ i h. ap (λ (t : Task). t.wait) (entry_at es ws i h))
 
 pub held_as : (es : List TaskEntry) (ws : List Waiter) → WaitsFit es ws → Held (tasks_as es ws)
@@ -49,7 +49,7 @@ held_as es ws f =
       form = λ i. tasks_as (sym d i) (sym w i);
       fit = subst₂ (λ (x : List TaskEntry) (y : List Waiter). WaitsFit x y) (sym d) (sym w) f;
       few = f.tasks;
-      room = let a = few f in let b = f.tasks in omega arith;
+      room = let a = few f in let b = f.tasks in omega (arith, length-map ws index_in);
     }
 
 indexes_low : (n : ℕ) (l : List Waiter) → All (Known n) l → (i : ℕ) → i < length l → get_or (map index_in l) i 0 < n
@@ -63,9 +63,13 @@ module _ {t : Tasks} (h : Held t) where
   unfolding tasks_as
   count_seen = ap (λ (x : Tasks). x.count) h.form
 
-  pub waiting_seen : t.waiting ≡ length (waits_of t)
+  pub order_seen : arrivals t.order ≡ map index_in (waits_of t)
   unfolding tasks_as
-  waiting_seen = ap (λ (x : Tasks). x.waiting) h.form
+  order_seen = ap (λ (x : Tasks). arrivals x.order) h.form ∙ pad_take 0 max_tasks (map index_in (waits_of t))
+
+  pub waiting_seen : t.order.count ≡ length (waits_of t)
+  unfolding tasks_as
+  waiting_seen = ap (λ (x : Tasks). x.order.count) h.form ∙ length-map (waits_of t) index_in
 
   pub entry_seen : (i : ℕ) → i < length (entries_of t) → get_or t.entries i no_task ≡ task_as (get_or (entries_of t) i no_entry) (wait_for (suc i) (waits_of t))
   unfolding tasks_as
@@ -80,9 +84,14 @@ module _ {t : Tasks} (h : Held t) where
       ∙ ap (λ (x : Task). x.priority) (pad_get no_task max_tasks (tasks_from 0 (entries_of t) (waits_of t)) i) ∙ entries_priority 0 (entries_of t) (waits_of t) i
 
   -- who waits is a task
-  pub order_low : (i : ℕ) → i < t.waiting → get_or t.order i 0 < length (entries_of t)
-  unfolding tasks_as
+  pub order_low : (i : ℕ) → i < length (arrivals t.order) → get_or (arrivals t.order) i 0 < length (entries_of t)
   order_low i l =
-      let e = ap (λ (x : Tasks). get_or x.order i 0) h.form ∙ pad_get 0 max_tasks (map index_in (waits_of t)) i in
-      let k = indexes_low (length (entries_of t)) (waits_of t) h.fit.known i (let w = waiting_seen in omega arith) in
+      let e = ap (λ (o : List ℕ). get_or o i 0) order_seen in
+      let k = indexes_low (length (entries_of t)) (waits_of t) h.fit.known i (omega (arith, ap length order_seen, length-map (waits_of t) index_in)) in
       omega arith
+
+  pub index_low : (o : List ℕ) → o ≡ arrivals t.order → (i : ℕ) → i < length o → get_or o i 0 < max_tasks
+  index_low o e i l =
+      let low = order_low i (omega (arith, ap length e)) in
+      let m = h.fit.tasks in
+      omega (arith, ap (λ (x : List ℕ). get_or x i 0) e)

@@ -6,7 +6,7 @@ use mathlib.Core.Logic.{◌≢◌}
 use mathlib.Core.Bool.{false}
 use mathlib.Core.List.{List, [], ◌∷◌, ◌++◌, map}
 use lib.IntN.{ℤ, pos, negsuc}
-use lib.ListN.{length, get_or, take, set, length-map, length-append}
+use lib.ListN.{length, get_or, set, length-map, length-append}
 use mir.Syntax.{w8}
 use mir.Val.{SFits}
 use Rattle.arrays.specs.Pad.{pad}
@@ -25,31 +25,31 @@ use Rattle.tasks.specs.declared.state.Tasks.{Tasks}
 use Rattle.tasks.specs.View.{no_task, with_wait, entries_of, waits_of, waiter_of}
 use Rattle.tasks.specs.Form.{task_as, tasks_as, tasks_from, wait_for, wait_in, index_in}
 use Rattle.tasks.specs.Held.{Held, Free, is_ready}
-use Rattle.tasks.specs.Orders.{order_of, without}
+use Rattle.tasks.specs.Orders.{order_of, arrivals, pushed, without}
 use Rattle.tasks.proofs.Waits.{wait_snoc, wait_snoc_other, wait_gone, wait_stays}
 use Rattle.tasks.proofs.Entries.{entries_length, entries_set, entries_snoc}
-use Rattle.tasks.proofs.Orders.{order_gone, order_snoc}
+use Rattle.tasks.proofs.Orders.{push_form, order_gone, order_snoc}
 use Rattle.tasks.proofs.Back.{entry_at, waiting_seen}
 
 -- ---- the tasks with some fields replaced
-abbrev pub with_waits : Tasks → List Task → ℕ → List ℕ → Tasks
-with_waits t ts n o = record { count = t.count; entries = ts; waiting = n; order = o }
+abbrev pub with_waits : Tasks → List Task → Order → Tasks
+with_waits t ts o = record { count = t.count; entries = ts; order = o }
 
 -- one task does something else
 abbrev pub doing : List Task → ℕ → Wait → List Task
 doing ts t w = set ts t (with_wait (get_or ts t no_task) w)
 
 abbrev pub others : Tasks → ℕ → List ℕ
-others t i = without i (take t.waiting t.order)
+others t i = without i (arrivals t.order)
 
 abbrev pub released : Tasks → ℕ → Tasks
-released t i = with_waits t (doing t.entries i Ready) (length (others t i)) (pad max_tasks 0 (others t i))
+released t i = with_waits t (doing t.entries i Ready) (order_of (others t i))
 
 abbrev pub joined : Tasks → ℕ → Wait → Tasks
-joined t i w = with_waits t (doing t.entries i w) (t.waiting + 1) (set t.order t.waiting i)
+joined t i w = with_waits t (doing t.entries i w) (pushed t.order i)
 
 abbrev pub added : Tasks → TaskEntry → Tasks
-added t d = record { count = t.count + 1; entries = set t.entries t.count (task_as d Ready); waiting = t.waiting; order = t.order }
+added t d = record { count = t.count + 1; entries = set t.entries t.count (task_as d Ready); order = t.order }
 
 -- ---- on the form
 module _ (es : List TaskEntry) (ws l : List Waiter) where
@@ -66,12 +66,9 @@ release_form : (es : List TaskEntry) (ws : List Waiter) → WaitsFit es ws → (
 unfolding tasks_as
 release_form es ws f i h =
     let l = leave (suc i) ws in
-    let o : without i (take (length ws) (pad max_tasks 0 (map index_in ws))) ≡ map index_in l =
-    ap (λ (n : ℕ). without i (take n (pad max_tasks 0 (map index_in ws)))) (sym (length-map ws index_in))
-    ∙ ap (without i) (pad_take 0 max_tasks (map index_in ws)) ∙ order_gone (length es) i ws f.known in
-    let n : length (without i (take (length ws) (pad max_tasks 0 (map index_in ws)))) ≡ length l = ap length o ∙ length-map l index_in in
+    let o : without i (arrivals (order_of (map index_in ws))) ≡ map index_in l = ap (without i) (pad_take 0 max_tasks (map index_in ws)) ∙ order_gone (length es) i ws f.known in
     let ts = entries_form es ws l i Ready h (wait_gone (suc i) ws) (λ u k. wait_stays u (suc i) ws k) in
-    λ j. with_waits (tasks_as es ws) (ts j) (n j) (pad max_tasks 0 (o j))
+    λ j. with_waits (tasks_as es ws) (ts j) (order_of (o j))
 
 module _ (es : List TaskEntry) (ws : List Waiter) (f : WaitsFit es ws) (i : ℕ) (k : Free es ws i) where
   -- a waiting task with this index can join
@@ -89,12 +86,11 @@ module _ (es : List TaskEntry) (ws : List Waiter) (f : WaitsFit es ws) (i : ℕ)
       let p = few g in
       let p' = f.tasks in
       let len = length-map ws index_in in
-      let o : set (pad max_tasks 0 (map index_in ws)) (length ws) i ≡ pad max_tasks 0 (map index_in l) =
-      ap (λ (m : ℕ). set (pad max_tasks 0 (map index_in ws)) m i) (sym len)
-      ∙ pad_snoc 0 max_tasks (map index_in ws) i (omega arith)
-      ∙ ap (pad max_tasks 0) (ap (λ (x : ℕ). map index_in ws ++ (x ∷ [])) (ap index (sym q)) ∙ sym (order_snoc e ws)) in
+      let o : pushed (order_of (map index_in ws)) i ≡ order_of (map index_in l) =
+      push_form (map index_in ws) i (omega arith)
+      ∙ ap order_of (ap (λ (x : ℕ). map index_in ws ++ (x ∷ [])) (ap index (sym q)) ∙ sym (order_snoc e ws)) in
       let ts = entries_form es ws l i w k.low (ap (λ (x : ℕ). wait_for x l) (sym q) ∙ wait_snoc e ws (ap (λ (x : ℕ). absent x ws) q ∙ k.free) ∙ r) (λ u z. wait_snoc_other u e ws (λ y. z (y ∙ q))) in
-      λ j. with_waits (tasks_as es ws) (ts j) (sym n j) (o j)
+      λ j. with_waits (tasks_as es ws) (ts j) (o j)
 
   join_form : (w : Wait) → is_ready w ≡ false → joined (tasks_as es ws) i w ≡ tasks_as es (join (waiter_of (suc i) w) ws)
   join_form Ready b = absurd (let z : ◌≡◌ {A = ℕ} 0 1 = cc in omega arith)
@@ -112,7 +108,7 @@ add_form es ws d h e =
     ∙ pad_snoc no_task max_tasks (tasks_from 0 es []) (task_as d Ready) (omega arith)
     ∙ ap (pad max_tasks no_task) (entries_snoc 0 es d) in
     ap (λ (l : List Waiter). added (tasks_as es l) d) e
-    ∙ (λ j. record { count = n j; entries = ts j; waiting = 0; order = pad max_tasks 0 (map index_in []) })
+    ∙ (λ j. record { count = n j; entries = ts j; order = order_of (map index_in []) })
     ∙ ap (tasks_as (es ++ (d ∷ []))) (sym e)
 
 -- a task's domain is a byte
@@ -125,22 +121,19 @@ owner_byte (negsuc (suc k)) h = absurd h
 module _ {t : Tasks} (h : Held t) where
   -- with the task's new entry, and the order without it
   pub release_link : (i : ℕ) (x : Task) (o : Order) → i < length (entries_of t) → x ≡ with_wait (get_or t.entries i no_task) Ready → o ≡ order_of (others t i)
-      → with_waits t (set t.entries i x) o.count o.entries ≡ tasks_as (entries_of t) (leave (suc i) (waits_of t))
-  release_link i x o l e f =
-      (λ j. with_waits t (set t.entries i (e j)) (f j).count (f j).entries)
-      ∙ ap (λ (y : Tasks). released y i) h.form ∙ release_form (entries_of t) (waits_of t) h.fit i l
+      → with_waits t (set t.entries i x) o ≡ tasks_as (entries_of t) (leave (suc i) (waits_of t))
+  release_link i x o l e f = (λ j. with_waits t (set t.entries i (e j)) (f j)) ∙ ap (λ (y : Tasks). released y i) h.form ∙ release_form (entries_of t) (waits_of t) h.fit i l
 
-  pub join_link : (i : ℕ) (w : Wait) (x : Task) → Free (entries_of t) (waits_of t) i → is_ready w ≡ false → x ≡ with_wait (get_or t.entries i no_task) w
-      → with_waits t (set t.entries i x) (t.waiting + 1) (set t.order t.waiting i) ≡ tasks_as (entries_of t) (join (waiter_of (suc i) w) (waits_of t))
-  join_link i w x k b e =
-      (λ j. with_waits t (set t.entries i (e j)) (t.waiting + 1) (set t.order t.waiting i))
-      ∙ ap (λ (y : Tasks). joined y i w) h.form ∙ join_form (entries_of t) (waits_of t) h.fit i k w b
+  pub join_link : (i : ℕ) (w : Wait) (x : Task) (o : Order) → Free (entries_of t) (waits_of t) i → is_ready w ≡ false → x ≡ with_wait (get_or t.entries i no_task) w → o ≡ pushed t.order i
+      → with_waits t (set t.entries i x) o ≡ tasks_as (entries_of t) (join (waiter_of (suc i) w) (waits_of t))
+  join_link i w x o k b e f =
+      (λ j. with_waits t (set t.entries i (e j)) (f j)) ∙ ap (λ (y : Tasks). joined y i w) h.form ∙ join_form (entries_of t) (waits_of t) h.fit i k w b
 
   pub add_link : (d : TaskEntry) → length (entries_of t) < max_tasks → waits_of t ≡ [] → added t d ≡ tasks_as (entries_of t ++ (d ∷ [])) (waits_of t)
   add_link d l e = ap (λ (x : Tasks). added x d) h.form ∙ add_form (entries_of t) (waits_of t) d l e
 
   -- who joins finds a place in the order
-  pub join_room : (i : ℕ) → Free (entries_of t) (waits_of t) i → t.waiting < max_tasks
+  pub join_room : (i : ℕ) → Free (entries_of t) (waits_of t) i → t.order.count < max_tasks
   join_room i k =
       let w = waiting_seen h in
       let x = waiter_of (suc i) (OnSem 0) in

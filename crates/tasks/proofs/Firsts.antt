@@ -1,11 +1,10 @@
 -- Who is first at a place, in either order. Assumes nothing.
-use Prim.Native.Nat.{ℕ, zero, suc, ◌-◌, ◌<◌}
+use Prim.Native.Nat.{ℕ, zero, suc, ◌≤◌, ◌<◌}
 use native.Mathlib.Omega.{arith}
 use mathlib.Core.Path.{◌≡◌, refl, sym, ap, ◌∙◌, subst}
-use mathlib.Core.Logic.{◌≢◌}
 use mathlib.Core.Bool.{Bool, true}
 use mathlib.Core.List.{List, [], ◌∷◌, map}
-use lib.ListN.{length, get_or, take}
+use lib.ListN.{length, get_or}
 use Rattle.model.specs.Lists.{index, at, All}
 use Rattle.model.specs.State.{Waiter, Place, no_task as no_entry}
 use Rattle.model.specs.Waits.{stands_at, is_other, waiters_in, standing, first_task, leave}
@@ -18,6 +17,7 @@ use Rattle.tasks.specs.declared.state.Tasks.{Tasks}
 use Rattle.tasks.specs.declared.wait.First.{First}
 use Rattle.std.specs.Prelude.{Option, Some, None, unwrap_or}
 use Rattle.tasks.specs.View.{no_task, waiter_of, waiter_at, entries_of, waits_of}
+use Rattle.tasks.specs.Orders.{arrivals}
 use Rattle.tasks.specs.Form.{tasks_as}
 use Rattle.tasks.specs.Held.{Held}
 use Rattle.tasks.specs.Ends.{first_of, task_in}
@@ -79,71 +79,72 @@ shown : (ts : List Task) (o : List ℕ) → All (Shown ts) (map (waiter_at ts) o
 shown ts [] = tt
 shown ts (i ∷ o) = (ap (λ (n : ℕ). waiter_at ts (index n)) (task_any (suc i) (get_or ts i no_task).wait), shown ts o)
 
-less : (k : ℕ) → k ≢ 0 → k - 1 ≡ index k
-less zero h = absurd (h refl)
-less (suc k) h = omega arith
-
-module _ {t : Tasks} (h : Held t) (b : Bool) (p : Place) (n : ℕ) (e : n ≡ first_task (standing b (entries_of t) (waiters_in (waits_of t) p))) where
-  nobody : n ≡ 0 → queue_at t b p ≡ []
-  nobody z = go (queue_at t b p) e (known_there h b p)
+module _ {t : Tasks} (h : Held t) (b : Bool) (p : Place) where
+  -- the numbers of those who stand there are of tasks
+  pub nth_low : (k : ℕ) → get_or (map task_in (queue_at t b p)) k 0 ≤ length (entries_of t)
+  nth_low k = go (queue_at t b p) k (known_there h b p)
     where
-      go : (l : List Waiter) → n ≡ first_task l → All (Known (length (entries_of t))) l → l ≡ []
-      go [] e k = refl
-      go (x ∷ l) e k = absurd (k.0.0 (sym e ∙ z))
+      go : (l : List Waiter) (k : ℕ) → All (Known (length (entries_of t))) l → get_or (map task_in l) k 0 ≤ length (entries_of t)
+      go [] k a = omega arith
+      go (x ∷ l) zero a = a.0.1
+      go (x ∷ l) (suc k) a = go l k a.1
 
-  pub first_none : n ≡ 0 → None ≡ first_of (standing b (entries_of t) (waiters_in (waits_of t) p))
-  first_none z = sym (ap first_of (nobody z))
-
-  pub first_found : n ≢ 0 → ◌≡◌ {A = Option First} (Some (record { task = n - 1; word = (waiter_of 0 (get_or t.entries (n - 1) no_task).wait).word })) (first_of (standing b (entries_of t) (waiters_in (waits_of t) p)))
-  unfolding waits_of
-  first_found z = go (queue_at t b p) e (all_there t b p (Shown t.entries) (shown t.entries (take t.waiting t.order)))
-    where
-      go : (l : List Waiter) → n ≡ first_task l → All (Shown t.entries) l → ◌≡◌ {A = Option First} (Some (record { task = n - 1; word = (waiter_of 0 (get_or t.entries (n - 1) no_task).wait).word })) (first_of l)
-      go [] e k = absurd (z e)
-      go (x ∷ l) e k =
-          let i : n - 1 ≡ index x.task = less n z ∙ ap index e in
-          let w = ap (λ (j : ℕ). (waiter_of 0 (get_or t.entries j no_task).wait).word) i ∙ sym (word_any (suc (index x.task)) (get_or t.entries (index x.task) no_task).wait) ∙ ap (λ (y : Waiter). y.word) k.0 in
-          λ j. Some (record { task = i j; word = w j })
-
-  -- ---- the first leaves
-  pub none_behind : n ≡ 0 → (k : ℕ) → 0 ≡ get_or (map task_in (standing b (entries_of t) (waiters_in (waits_of t) p))) k 0
-  none_behind z k = sym (ap (λ (l : List Waiter). get_or (map task_in l) k 0) (nobody z))
-
-  module _ (z : n ≢ 0) where
-    pub first_low : n - 1 < length (entries_of t)
-    first_low = go (queue_at t b p) e (known_there h b p)
+  -- ---- nobody is the first
+  module _ (e : 0 ≡ first_task (queue_at t b p)) where
+    nobody : queue_at t b p ≡ []
+    nobody = go (queue_at t b p) e (known_there h b p)
       where
-        go : (l : List Waiter) → n ≡ first_task l → All (Known (length (entries_of t))) l → n - 1 < length (entries_of t)
-        go [] e k = absurd (z e)
-        go (x ∷ l) e k = let m = k.0.1 in omega arith
+        go : (l : List Waiter) → 0 ≡ first_task l → All (Known (length (entries_of t))) l → l ≡ []
+        go [] e k = refl
+        go (x ∷ l) e k = absurd (k.0.0 (sym e))
 
-    module _ (t' : Tasks) (g : t' ≡ tasks_as (entries_of t) (leave (suc (n - 1)) (waits_of t))) where
-      fits : WaitsFit (entries_of t) (leave (suc (n - 1)) (waits_of t))
-      fits = waits_leave h.fit (suc (n - 1))
+    pub first_none : None ≡ first_of (queue_at t b p)
+    first_none = sym (ap first_of nobody)
+
+    pub none_behind : (k : ℕ) → 0 ≡ get_or (map task_in (queue_at t b p)) k 0
+    none_behind k = sym (ap (λ (l : List Waiter). get_or (map task_in l) k 0) nobody)
+
+  -- ---- the task with this index is
+  module _ (i : ℕ) (e : suc i ≡ first_task (queue_at t b p)) where
+    pub first_low : i < length (entries_of t)
+    first_low = let l = nth_low 0 in omega (arith, e, first_task_lem (queue_at t b p))
+
+    pub first_found : ◌≡◌ {A = Option First} (Some (record { task = i; word = (waiter_of 0 (get_or t.entries i no_task).wait).word })) (first_of (queue_at t b p))
+    unfolding waits_of
+    first_found = go (queue_at t b p) e (all_there t b p (Shown t.entries) (shown t.entries (arrivals t.order)))
+      where
+        go : (l : List Waiter) → suc i ≡ first_task l → All (Shown t.entries) l → ◌≡◌ {A = Option First} (Some (record { task = i; word = (waiter_of 0 (get_or t.entries i no_task).wait).word })) (first_of l)
+        go [] e k = absurd (omega (arith, e))
+        go (x ∷ l) e k =
+            let n : i ≡ index x.task = ap index e in
+            let w = ap (λ (j : ℕ). (waiter_of 0 (get_or t.entries j no_task).wait).word) n ∙ sym (word_any (suc (index x.task)) (get_or t.entries (index x.task) no_task).wait) ∙ ap (λ (y : Waiter). y.word) k.0 in
+            λ j. Some (record { task = n j; word = w j })
+
+    -- it leaves
+    module _ (t' : Tasks) (g : t' ≡ tasks_as (entries_of t) (leave (suc i) (waits_of t))) where
+      fits : WaitsFit (entries_of t) (leave (suc i) (waits_of t))
+      fits = waits_leave h.fit (suc i)
 
       pub held_behind : Held t'
-      held_behind = subst Held (sym g) (held_as (entries_of t) (leave (suc (n - 1)) (waits_of t)) fits)
+      held_behind = subst Held (sym g) (held_as (entries_of t) (leave (suc i) (waits_of t)) fits)
 
       -- the others stand as they stood
-      pub behind : (k : ℕ) → k ≢ 0
-          → get_or (map task_in (standing b (entries_of t) (waiters_in (waits_of t) p))) k 0 ≡ get_or (map task_in (standing b (entries_of t') (waiters_in (waits_of t') p))) (k - 1) 0
-      behind k q = go (queue_at t b p) refl e
+      pub behind : (k : ℕ) → get_or (map task_in (queue_at t b p)) (suc k) 0 ≡ get_or (map task_in (queue_at t' b p)) k 0
+      behind k = go (queue_at t b p) refl e
         where
-          seen : queue_at t' b p ≡ standing b (entries_of t) (leave (suc (n - 1)) (waiters_in (waits_of t) p))
+          seen : queue_at t' b p ≡ standing b (entries_of t) (leave (suc i) (waiters_in (waits_of t) p))
           seen =
-              let ws = leave (suc (n - 1)) (waits_of t) in
+              let ws = leave (suc i) (waits_of t) in
               let u = ap entries_of g ∙ back_entries (entries_of t) ws fits in
               let v = ap waits_of g ∙ back_waits (entries_of t) ws fits in
-              (λ j. standing b (u j) (waiters_in (v j) p)) ∙ ap (standing b (entries_of t)) (keep_comm (stands_at p) (is_other (suc (n - 1))) (waits_of t))
+              (λ j. standing b (u j) (waiters_in (v j) p)) ∙ ap (standing b (entries_of t)) (keep_comm (stands_at p) (is_other (suc i)) (waits_of t))
 
-          go : (l : List Waiter) → queue_at t b p ≡ l → n ≡ first_task l → get_or (map task_in (queue_at t b p)) k 0 ≡ get_or (map task_in (queue_at t' b p)) (k - 1) 0
-          go [] f e = absurd (z e)
+          go : (l : List Waiter) → queue_at t b p ≡ l → suc i ≡ first_task l → get_or (map task_in (queue_at t b p)) (suc k) 0 ≡ get_or (map task_in (queue_at t' b p)) k 0
+          go [] f e = absurd (omega (arith, e))
           go (x ∷ l) f e =
-              let i : k ≡ suc (k - 1) = omega arith in
-              let m : suc (n - 1) ≡ x.task = omega (arith, e) in
-              let r : queue_at t' b p ≡ l = seen ∙ ap (λ (y : ℕ). standing b (entries_of t) (leave y (waiters_in (waits_of t) p))) m
+              let r : queue_at t' b p ≡ l = seen ∙ ap (λ (y : ℕ). standing b (entries_of t) (leave y (waiters_in (waits_of t) p))) e
               ∙ standing_leaves b (entries_of t) (waiters_in (waits_of t) p) (distinct_keep (stands_at p) (waits_of t) h.fit.distinct) f in
-              (λ j. get_or (map task_in (f j)) (i j) 0) ∙ ap (λ (y : List Waiter). get_or (map task_in y) (k - 1) 0) (sym r)
+              ap (λ (y : List Waiter). get_or (map task_in y) (suc k) 0) f ∙ ap (λ (y : List Waiter). get_or (map task_in y) k 0) (sym r)
 
 -- ---- by priority, from the numbers of those who wait and the priorities in the array
 pub first_ranked : {t : Tasks} → Held t → (p : Place) → first_task (standing true (entries_of t) (waiters_in (waits_of t) p)) ≡ first_by (λ (n : ℕ). (at no_task t.entries n).priority) (map task_in (waiters_in (waits_of t) p))

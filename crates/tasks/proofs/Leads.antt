@@ -1,16 +1,16 @@
 -- The first by rank, found along a list: who comes later leads only if it ranks lower. Assumes nothing.
-use Prim.Native.Nat.{ℕ, zero, suc, ◌+◌, ◌≤◌, ◌<◌}
+use Prim.Native.Nat.{ℕ, zero, suc, ◌≤◌, ◌<◌}
 use native.Mathlib.Omega.{arith}
-use native.Mathlib.Numerals.{add-one}
 use mathlib.Core.Path.{◌≡◌, refl, sym, ap, ◌∙◌, subst₂}
 use mathlib.Core.Bool.{Bool, true, false, cond}
 use mathlib.Core.List.{List, [], ◌∷◌, map}
-use lib.Dec.{eqb, ltb, leb}
+use lib.Dec.{ltb, leb}
 use lib.ListN.{get_or}
-use borrow.Author.Tests.{leb-true, leb-false, lt-ltb, le-ltb, le-leb, lt-leb, ne_eqb}
+use borrow.Author.Tests.{leb-true, leb-false, lt-ltb, le-ltb, le-leb, lt-leb}
 use Rattle.model.specs.Lists.{insert, arrange}
 use Rattle.tasks.specs.declared.lead.Lead.{Lead}
-use Rattle.tasks.specs.Leads.{lead, lead_of}
+use Rattle.std.specs.Prelude.{Option, Some, None}
+use Rattle.tasks.specs.Leads.{lead, lead_of, leader}
 
 -- ---- of any list
 module _ {A : Type 0} (rank : A → ℕ) (d : A) where
@@ -79,8 +79,9 @@ map_arrange {A} {B} f rank (x ∷ l) = put_in (arrange (λ (x : A). rank (f x)) 
 -- ---- of numbers from 1, where 0 is nobody
 module _ (rank : ℕ → ℕ) where
   -- who leads with its rank
-  abbrev pub leads : ℕ → Lead
-  leads n = lead n (rank n)
+  abbrev pub leads : ℕ → Option Lead
+  leads zero = None
+  leads (suc i) = Some (lead i (rank (suc i)))
 
   -- who leads, ahead of those who are left
   abbrev pub led : ℕ → List ℕ → List ℕ
@@ -90,19 +91,23 @@ module _ (rank : ℕ → ℕ) where
   abbrev pub first_by : List ℕ → ℕ
   first_by l = get_or (arrange rank l) 0 0
 
-  own : (b x : ℕ) → lead_of (leads b) x (rank x) ≡ leads (lead_of (leads b) x (rank x)).number
-  own b x = go (eqb b 0) (ltb (rank x) (rank b))
-    where
-      go : (c e : Bool) → cond c (leads x) (cond e (leads x) (leads b)) ≡ leads (cond c (leads x) (cond e (leads x) (leads b))).number
-      go true e = refl
-      go false true = refl
-      go false false = refl
+  -- who leads after one more
+  abbrev next : ℕ → ℕ → Option Lead
+  next b x = Some (lead_of (leads b) (lead x (rank (suc x))))
 
-  step : (b x : ℕ) (l : List ℕ) → first_by (led b (suc x ∷ l)) ≡ first_by (led (lead_of (leads b) (suc x) (rank (suc x))).number l)
-  step zero x l = refl
-  step (suc b) x l = first_two rank 0 (suc b) (suc x) (arrange rank l) ∙ rw (ne_eqb (suc b) 0 (λ q. omega arith)) (go (ltb (rank (suc x)) (rank (suc b))))
+  own : (b x : ℕ) → next b x ≡ leads (leader (next b x))
+  own zero x = refl
+  own (suc b) x = go (ltb (rank (suc x)) (rank (suc b)))
     where
-      go : (c : Bool) → get_or (insert rank (cond c (suc x) (suc b)) (arrange rank l)) 0 0 ≡ first_by (led (cond c (leads (suc x)) (leads (suc b))).number l)
+      go : (c : Bool) → ◌≡◌ {A = Option Lead} (Some (cond c (lead x (rank (suc x))) (lead b (rank (suc b))))) (leads (leader (Some (cond c (lead x (rank (suc x))) (lead b (rank (suc b)))))))
+      go true = refl
+      go false = refl
+
+  step : (b x : ℕ) (l : List ℕ) → first_by (led b (suc x ∷ l)) ≡ first_by (led (leader (next b x)) l)
+  step zero x l = refl
+  step (suc b) x l = first_two rank 0 (suc b) (suc x) (arrange rank l) ∙ go (ltb (rank (suc x)) (rank (suc b)))
+    where
+      go : (c : Bool) → get_or (insert rank (cond c (suc x) (suc b)) (arrange rank l)) 0 0 ≡ first_by (led (leader (Some (cond c (lead x (rank (suc x))) (lead b (rank (suc b)))))) l)
       go true = refl
       go false = refl
 
@@ -111,26 +116,26 @@ module _ (rank : ℕ → ℕ) where
   last (suc b) = refl
 
 -- along all of them: who leads has its rank, and the first of it and those who are left is the first of all
-pub record Scan (rank : ℕ → ℕ) (all left : List ℕ) (a : Lead) : Type 0 where
-  pub own_rank : a ≡ leads rank a.number
-  pub same_first : first_by rank all ≡ first_by rank (led rank a.number left)
+pub record Scan (rank : ℕ → ℕ) (all left : List ℕ) (a : Option Lead) : Type 0 where
+  pub own_rank : a ≡ leads rank (leader a)
+  pub same_first : first_by rank all ≡ first_by rank (led rank (leader a) left)
 
 module _ (rank : ℕ → ℕ) (all : List ℕ) where
-  pub scan_start : Scan rank all all (leads rank 0)
+  pub scan_start : Scan rank all all None
   scan_start = record { own_rank = refl; same_first = refl }
 
   -- of those who are left the first is looked at, or passed over
-  module _ (m l : List ℕ) (a r : Lead) (v : Scan rank all m a) where
-    pub scan_next : (x : ℕ) → m ≡ suc x ∷ l → r ≡ lead_of a (x + 1) (rank (suc x)) → Scan rank all l r
+  module _ (m l : List ℕ) (a r : Option Lead) (v : Scan rank all m a) where
+    pub scan_next : (x : ℕ) → m ≡ suc x ∷ l → r ≡ Some (lead_of a (lead x (rank (suc x)))) → Scan rank all l r
     scan_next x h f =
-        let e : r ≡ lead_of (leads rank a.number) (suc x) (rank (suc x)) = f ∙ (λ i. lead_of (v.own_rank i) (add-one x i) (rank (suc x))) in
+        let e : r ≡ next rank (leader a) x = f ∙ ap (λ (y : Option Lead). Some (lead_of y (lead x (rank (suc x))))) v.own_rank in
         record {
-          own_rank = e ∙ own rank a.number (suc x) ∙ ap (λ (y : Lead). leads rank y.number) (sym e);
-          same_first = v.same_first ∙ ap (λ (k : List ℕ). first_by rank (led rank a.number k)) h ∙ step rank a.number x l ∙ ap (λ (y : Lead). first_by rank (led rank y.number l)) (sym e);
+          own_rank = e ∙ own rank (leader a) x ∙ ap (λ (y : Option Lead). leads rank (leader y)) (sym e);
+          same_first = v.same_first ∙ ap (λ (k : List ℕ). first_by rank (led rank (leader a) k)) h ∙ step rank (leader a) x l ∙ ap (λ (y : Option Lead). first_by rank (led rank (leader y) l)) (sym e);
         }
 
     pub scan_pass : m ≡ l → r ≡ a → Scan rank all l r
-    scan_pass h f = subst₂ (λ (k : List ℕ) (y : Lead). Scan rank all k y) h (sym f) v
+    scan_pass h f = subst₂ (λ (k : List ℕ) (y : Option Lead). Scan rank all k y) h (sym f) v
 
-  pub scan_end : (l : List ℕ) (a : Lead) → l ≡ [] → Scan rank all l a → first_by rank all ≡ a.number
-  scan_end l a e v = v.same_first ∙ ap (λ (m : List ℕ). first_by rank (led rank a.number m)) e ∙ last rank a.number
+  pub scan_end : (l : List ℕ) (a : Option Lead) → l ≡ [] → Scan rank all l a → first_by rank all ≡ leader a
+  scan_end l a e v = v.same_first ∙ ap (λ (m : List ℕ). first_by rank (led rank (leader a) m)) e ∙ last rank (leader a)

@@ -8,5 +8,4 @@ pub mod Waiters
 pub mod Leads
 pub mod Firsts
 pub mod Callers
-pub mod Ends
 pub mod Rooms

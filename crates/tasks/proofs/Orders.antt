@@ -4,12 +4,11 @@ use native.Mathlib.Omega.{arith}
 use native.Mathlib.Numerals.{add-one}
 use mathlib.Core.Path.{◌≡◌, refl, sym, ap, ◌∙◌}
 use mathlib.Core.Logic.{◌≢◌}
-use mathlib.Core.Bool.{Bool, true, false, cond, not}
+use mathlib.Core.Bool.{Bool, true, false, not}
 use mathlib.Core.List.{List, [], ◌∷◌, ◌++◌, map, append-nil}
 use lib.Dec.{eqb}
-use lib.ListN.{length, get_or, take, set, length-append}
+use lib.ListN.{length, get_or, take, length-append}
 use lib.Seq.{take-suc}
-use Rattle.arrays.specs.Pad.{pad}
 use Rattle.arrays.proofs.Pads.{pad_snoc}
 use Rattle.itron.specs.Limits.{max_tasks}
 use Rattle.model.specs.Lists.{index, cons_if, keep, All}
@@ -18,7 +17,7 @@ use Rattle.model.specs.Waits.{is_other}
 use Rattle.model.specs.Conditions.{Known}
 use Rattle.model.proofs.Lists.{eq_of, ne_of, eqb_same, eqb_no, keep_append}
 use Rattle.tasks.specs.Form.{index_in}
-use Rattle.tasks.specs.Orders.{order_of, without, kept_of, not_index}
+use Rattle.tasks.specs.Orders.{order_of, pushed, without, not_index}
 
 -- ---- built entry by entry
 pub without_few : (t i : ℕ) (o : List ℕ) → length (without t (take i o)) ≤ i
@@ -30,23 +29,27 @@ without_few t (suc i) (x ∷ o) = go (not_index t x) (without_few t i o)
     go true h = omega arith
     go false h = omega arith
 
-pub without_step : (t i : ℕ) (o : List ℕ) → i < length o → i < max_tasks → kept_of (order_of (without t (take i o))) (get_or o i 0) t ≡ order_of (without t (take (i + 1) o))
-without_step t i o h k =
-    let x = get_or o i 0 in
-    let e : take (i + 1) o ≡ take i o ++ (x ∷ []) = ap (λ (n : ℕ). take n o) (add-one i) ∙ take-suc o i 0 h in
-    go (eqb t x) refl ∙ ap order_of (sym (ap (without t) e ∙ keep_append (not_index t) (take i o) (x ∷ [])))
-  where
-    go : (b : Bool) → eqb t (get_or o i 0) ≡ b
-        → cond b (order_of (without t (take i o))) (record { entries = set (pad max_tasks 0 (without t (take i o))) (length (without t (take i o))) (get_or o i 0); count = length (without t (take i o)) + 1 })
-        ≡ order_of (without t (take i o) ++ without t (get_or o i 0 ∷ []))
-    go true e = rw e (ap order_of (sym (append-nil (without t (take i o)))))
-    go false e =
-        let l = without t (take i o) in
-        let x = get_or o i 0 in
-        let f = without_few t i o in
-        let a = pad_snoc 0 max_tasks l x (omega arith) in
-        let b : length l + 1 ≡ length (l ++ (x ∷ [])) = sym (length-append l (x ∷ [])) in
-        rw e (λ j. record { entries = a j; count = b j })
+pub push_form : (l : List ℕ) (x : ℕ) → length l < max_tasks → pushed (order_of l) x ≡ order_of (l ++ (x ∷ []))
+push_form l x h =
+    let a = pad_snoc 0 max_tasks l x h in
+    let b : length l + 1 ≡ length (l ++ (x ∷ [])) = sym (length-append l (x ∷ [])) in
+    λ j. record { entries = a j; count = b j }
+
+-- the next is kept, or it is the one left out
+module _ (t i : ℕ) (o : List ℕ) (h : i < length o) where
+  next : without t (take (i + 1) o) ≡ without t (take i o) ++ without t (get_or o i 0 ∷ [])
+  next = ap (λ (n : ℕ). without t (take n o)) (add-one i) ∙ ap (without t) (take-suc o i 0 h) ∙ keep_append (not_index t) (take i o) (get_or o i 0 ∷ [])
+
+  pub without_kept : get_or o i 0 ≢ t → length o ≤ max_tasks → pushed (order_of (without t (take i o))) (get_or o i 0) ≡ order_of (without t (take (i + 1) o))
+  without_kept n k =
+      let f = without_few t i o in
+      let e : eqb t (get_or o i 0) ≡ false = eqb_no t (get_or o i 0) (λ q. n (sym q)) in
+      push_form (without t (take i o)) (get_or o i 0) (omega arith) ∙ ap order_of (sym (next ∙ rw e))
+
+  pub without_left : get_or o i 0 ≡ t → order_of (without t (take i o)) ≡ order_of (without t (take (i + 1) o))
+  without_left q =
+      let e : eqb t (get_or o i 0) ≡ true = ap (eqb t) q ∙ eqb_same t in
+      ap order_of (sym (next ∙ rw e (append-nil (without t (take i o)))))
 
 -- ---- without a task: its index is gone from the order as its number is from those who wait
 pub eqb_suc : (m n : ℕ) → eqb m n ≡ eqb (suc m) (suc n)

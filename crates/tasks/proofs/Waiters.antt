@@ -1,13 +1,13 @@
 -- All who wait at a place, counted off along the order. Assumes nothing.
-use Prim.Native.Nat.{ℕ, zero, suc, ◌+◌, ◌-◌, ◌≤◌, ◌<◌}
+use Prim.Native.Nat.{ℕ, suc, ◌+◌, ◌-◌, ◌<◌}
 use native.Mathlib.Omega.{arith}
 use native.Mathlib.Numerals.{add-one}
 use mathlib.Core.Path.{◌≡◌, refl, sym, ap, ◌∙◌}
 use mathlib.Core.Logic.{◌≢◌}
 use mathlib.Core.Bool.{Bool, true, false}
 use mathlib.Core.List.{List, [], ◌∷◌, map}
-use lib.ListN.{length, get_or, take, drop}
-use lib.Seq.{drop-cons, get_or-take, length-take-le}
+use lib.ListN.{length, get_or, drop}
+use lib.Seq.{drop-cons}
 use Rattle.model.specs.Lists.{keep}
 use Rattle.model.specs.State.{Place, same_place}
 use Rattle.model.specs.Waits.{stands_at}
@@ -27,36 +27,31 @@ module _ (ts : List Task) (p : Place) where
   abbrev numbers_of : List ℕ → List ℕ
   numbers_of o = map task_in (keep (stands_at p) (map (waiter_at ts) o))
 
-  -- the numbers of those at the place, from the i-th of the first w in the order
-  abbrev pub numbers_from : List ℕ → ℕ → ℕ → List ℕ
-  numbers_from o w i = numbers_of (drop i (take w o))
+  -- the numbers of those at the place, from the i-th in the order
+  abbrev pub numbers_from : List ℕ → ℕ → List ℕ
+  numbers_from o i = numbers_of (drop i o)
 
-  pub none_left : (o : List ℕ) (w : ℕ) → numbers_from o w w ≡ []
-  none_left o zero = refl
-  none_left [] (suc w) = refl
-  none_left (x ∷ o) (suc w) = none_left o w
+  pub none_left : (o : List ℕ) → numbers_from o (length o) ≡ []
+  none_left [] = refl
+  none_left (x ∷ o) = none_left o
 
-  module _ (o : List ℕ) (w i : ℕ) (h : i < w) (l : w ≤ length o) where
-    next : drop i (take w o) ≡ get_or o i 0 ∷ drop (i + 1) (take w o)
-    next =
-        let n = length-take-le w o l in
-        drop-cons (take w o) i 0 (omega arith)
-        ∙ ap (λ (x : ℕ). x ∷ drop (suc i) (take w o)) (get_or-take w o i 0 h)
-        ∙ ap (λ (j : ℕ). get_or o i 0 ∷ drop j (take w o)) (sym (add-one i))
+  module _ (o : List ℕ) (i : ℕ) (h : i < length o) where
+    next : drop i o ≡ get_or o i 0 ∷ drop (i + 1) o
+    next = drop-cons o i 0 h ∙ ap (λ (j : ℕ). get_or o i 0 ∷ drop j o) (sym (add-one i))
 
     -- one who stands elsewhere is passed over
-    pub pass : stands_in (get_or o i 0) ≡ false → numbers_from o w i ≡ numbers_from o w (i + 1)
+    pub pass : stands_in (get_or o i 0) ≡ false → numbers_from o i ≡ numbers_from o (i + 1)
     pass e = ap numbers_of next ∙ rw (stands (get_or o i 0) false e)
 
     module _ (e : stands_in (get_or o i 0) ≡ true) where
-      pub here : numbers_from o w i ≡ suc (get_or o i 0) ∷ numbers_from o w (i + 1)
+      pub here : numbers_from o i ≡ suc (get_or o i 0) ∷ numbers_from o (i + 1)
       here =
           let x = get_or o i 0 in
-          ap numbers_of next ∙ rw (stands x true e) (ap (λ (y : ℕ). y ∷ numbers_from o w (i + 1)) (task_any (suc x) (get_or ts x no_task).wait))
+          ap numbers_of next ∙ rw (stands x true e) (ap (λ (y : ℕ). y ∷ numbers_from o (i + 1)) (task_any (suc x) (get_or ts x no_task).wait))
 
       -- one who stands here is the next, or is counted off
-      pub found : (k : ℕ) → k ≡ 0 → get_or (numbers_from o w i) k 0 ≡ get_or o i 0 + 1
-      found k z = let n : suc (get_or o i 0) ≡ get_or o i 0 + 1 = omega arith in (λ j. get_or (here j) (z j) 0) ∙ n
+      pub found : (k : ℕ) → k ≡ 0 → get_or (numbers_from o i) k 0 ≡ suc (get_or o i 0)
+      found k z = λ j. get_or (here j) (z j) 0
 
-      pub count_off : (k : ℕ) → k ≢ 0 → get_or (numbers_from o w i) k 0 ≡ get_or (numbers_from o w (i + 1)) (k - 1) 0
+      pub count_off : (k : ℕ) → k ≢ 0 → get_or (numbers_from o i) k 0 ≡ get_or (numbers_from o (i + 1)) (k - 1) 0
       count_off k z = let n : k ≡ suc (k - 1) = omega arith in λ j. get_or (here j) (n j) 0

@@ -19,6 +19,11 @@ abbrev pub first_of : List Waiter → Option First
 first_of [] = None
 first_of (e ∷ l) = Some (record { task = index e.task; word = e.word })
 
+-- the number of the task with an index, 0 of none
+abbrev pub numbered : Option ℕ → ℕ
+numbered None = 0
+numbered (Some i) = suc i
+
 -- the number of a waiting task
 abbrev pub task_in : Waiter → ℕ
 task_in e = e.task

@@ -11,6 +11,7 @@ use Rattle.tasks.specs.declared.task.Wait.TheVariants.{Ready, OnSem, Receiving, 
 use Rattle.tasks.specs.declared.task.Task.{Task}
 use Rattle.tasks.specs.declared.state.Tasks.{Tasks}
 use Rattle.tasks.specs.View.{no_task}
+use Rattle.tasks.specs.Orders.{order_of}
 
 abbrev pub wait_as : Side → ℕ → ℕ → Wait
 wait_as on_sem n w = OnSem (index n)
@@ -42,6 +43,5 @@ tasks_as es ws =
     record {
       count = length es;
       entries = pad max_tasks no_task (tasks_from 0 es ws);
-      waiting = length ws;
-      order = pad max_tasks 0 (map index_in ws);
+      order = order_of (map index_in ws);
     }

@@ -18,7 +18,7 @@ pub record Held (t : Tasks) : Type 0 where
   pub form : t ≡ tasks_as (entries_of t) (waits_of t)
   pub fit : WaitsFit (entries_of t) (waits_of t)
   pub few : t.count ≤ max_tasks
-  pub room : t.waiting ≤ max_tasks
+  pub room : t.order.count ≤ max_tasks
 
 abbrev pub is_ready : Wait → Bool
 is_ready Ready = true

@@ -1,10 +1,16 @@
 -- The most urgent along the order of arrival. Definitions only.
-use Rattle.std.specs.Prelude.{ℕ, cond, eqb, ltb}
+use Rattle.std.specs.Prelude.{ℕ, cond, ltb, suc, Option, Some, None}
 use Rattle.tasks.specs.declared.lead.Lead.{Lead}
 
 abbrev pub lead : ℕ → ℕ → Lead
-lead n p = record { number = n; priority = p }
+lead i p = record { task = i; priority = p }
 
 -- one who comes later leads only if it is more urgent
-abbrev pub lead_of : Lead → ℕ → ℕ → Lead
-lead_of a n p = cond (eqb a.number 0) (lead n p) (cond (ltb p a.priority) (lead n p) a)
+abbrev pub lead_of : Option Lead → Lead → Lead
+lead_of None x = x
+lead_of (Some a) x = cond (ltb x.priority a.priority) x a
+
+-- the number of the one who leads, 0 if nobody does
+abbrev pub leader : Option Lead → ℕ
+leader None = 0
+leader (Some a) = suc a.task

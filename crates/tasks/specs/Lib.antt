@@ -3,6 +3,7 @@ pub mod Form
 pub mod Held
 pub mod Orders
 pub mod Leads
+pub mod Places
 pub mod Ends
 pub mod Effects
 pub mod Entries

@@ -10,11 +10,8 @@ use itron::limit::MAX_PRIORITY;
 pub fn check(priority: u32) -> Result<(), Error>
     ensures { result ≡ passed (entry_check priority) }
 {
-    if priority < 1 {
-        return Err(Error::Par);
+    match priority {
+        1..=MAX_PRIORITY => Ok(()),
+        _ => Err(Error::Par),
     }
-    if MAX_PRIORITY < priority {
-        return Err(Error::Par);
-    }
-    Ok(())
 }

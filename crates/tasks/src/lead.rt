@@ -2,24 +2,21 @@
 ghost use Rattle.std.specs.Prelude.{◌≡◌};
 ghost use Rattle.tasks.specs.Leads.{lead_of};
 
-// The number of the most urgent so far with its priority; 0 and 0 before the first.
+// The index of a task, with its priority.
 #[derive(Clone, Copy)]
 pub(crate) struct Lead {
-    pub(crate) number: usize,
+    pub(crate) task: usize,
     pub(crate) priority: u8,
 }
 
 impl Lead {
-    // One who comes later leads only if it is more urgent.
-    pub(crate) fn against(self, number: usize, priority: u8) -> Lead
-        ensures { result ≡ lead_of self number priority }
+    // Who leads of one who comes later and the one who did, if any did: the later only if it is more urgent.
+    pub(crate) fn after(self, lead: Option<Lead>) -> Lead
+        ensures { result ≡ lead_of lead self }
     {
-        if self.number == 0 {
-            return Lead { number, priority };
+        match lead {
+            Some(lead) if lead.priority <= self.priority => lead,
+            _ => self,
         }
-        if priority < self.priority {
-            return Lead { number, priority };
-        }
-        self
     }
 }

@@ -1,7 +1,7 @@
 // The order in which those who wait began to.
-ghost use Rattle.std.specs.Prelude.{◌≡◌, ◌≤◌, ◌<◌, take};
+ghost use Rattle.std.specs.Prelude.{◌≡◌, ◌≤◌, ◌<◌};
 ghost use Rattle.itron.specs.Limits.{max_tasks};
-ghost use Rattle.tasks.specs.Orders.{kept_of, order_of, without};
+ghost use Rattle.tasks.specs.Orders.{arrivals, order_of, pushed, without};
 
 use itron::limit::MAX_TASKS;
 
@@ -13,35 +13,41 @@ pub(crate) struct Order {
 }
 
 impl Order {
-    // With one task more, unless it is the one left out.
-    pub(crate) fn kept(mut self, task: u8, left: u8) -> Order
-        requires { self.count < max_tasks }
-        ensures { result ≡ kept_of self task left }
-    {
-        if left == task {
-            return self;
-        }
-        let at = self.count;
-        self.entries[at] = task;
-        self.count = at + 1;
-        self
-    }
-}
-
-// The first `waiting` entries of the order, one task left out.
-pub(crate) fn without(order: [u8; MAX_TASKS], waiting: usize, left: u8) -> Order
-    requires { waiting ≤ max_tasks }
-    ensures { result ≡ order_of (without left (take waiting order)) }
-{
-    let mut rest = Order {
+    // Nobody.
+    pub(crate) const EMPTY: Order = Order {
         entries: [0; MAX_TASKS],
         count: 0,
     };
-    let mut i = 0;
-    while i < waiting {
-        let task = order[i];
-        rest = rest.kept(task, left);
-        i += 1;
+
+    // All of them, the first to come first.
+    pub(crate) fn as_slice(&self) -> &[u8]
+        requires { self.now.count ≤ max_tasks }
+        ensures { result.now ≡ arrivals self.now }
+    {
+        &self.entries[..self.count]
     }
-    rest
+
+    // One more, the last to come.
+    pub(crate) fn push(&mut self, task: u8)
+        requires { self.old.count < max_tasks }
+        ensures { self.new ≡ pushed self.old task }
+    {
+        self.entries[self.count] = task;
+        self.count += 1;
+    }
+
+    // One task left out.
+    pub(crate) fn without(&self, left: u8) -> Order
+        requires { self.now.count ≤ max_tasks }
+        ensures { result ≡ order_of (without left (arrivals self.now)) }
+    {
+        let mut rest = Order::EMPTY;
+        let all = self.as_slice();
+        for &task in all {
+            if task != left {
+                rest.push(task);
+            }
+        }
+        rest
+    }
 }

@@ -9,7 +9,7 @@ ghost use Rattle.tasks.specs.Form.{tasks_as};
 ghost use Rattle.tasks.specs.Held.{Held, Free, is_ready};
 ghost use Rattle.tasks.specs.Ends.{task_of};
 
-use crate::order;
+use crate::order::Order;
 use crate::task::{Task, Wait};
 use itron::limit::MAX_TASKS;
 
@@ -17,9 +17,8 @@ use itron::limit::MAX_TASKS;
 pub struct Tasks {
     pub(crate) count: usize,
     pub(crate) entries: [Task; MAX_TASKS],
-    pub(crate) waiting: usize,
-    // Indexes of the waiting tasks by arrival; 0 past the first `waiting`.
-    pub(crate) order: [u8; MAX_TASKS],
+    // Who waits.
+    pub(crate) order: Order,
 }
 
 impl Tasks {
@@ -29,13 +28,8 @@ impl Tasks {
     {
         Tasks {
             count: 0,
-            entries: [Task {
-                domain: 0,
-                priority: 0,
-                wait: Wait::Ready,
-            }; MAX_TASKS],
-            waiting: 0,
-            order: [0; MAX_TASKS],
+            entries: [Task::NONE; MAX_TASKS],
+            order: Order::EMPTY,
         }
     }
 
@@ -52,13 +46,12 @@ impl Tasks {
         requires { Held self × (length (entries_of self) < max_tasks) × (waits_of self ≡ []) × TaskEntryFits max_domains (new_task domain priority) }
         ensures { result ≡ tasks_as (entries_of self ++ (new_task domain priority ∷ [])) (waits_of self) }
     {
-        let at = self.count;
-        self.entries[at] = Task {
+        self.entries[self.count] = Task {
             domain: domain as i8,
             priority: priority as u8,
             wait: Wait::Ready,
         };
-        self.count = at + 1;
+        self.count += 1;
         self
     }
 
@@ -67,22 +60,10 @@ impl Tasks {
         requires { Held self }
         ensures { result ≡ task_of (entries_of self) (waits_of self) number }
     {
-        if number == 0 {
-            return Task {
-                domain: 0,
-                priority: 0,
-                wait: Wait::Ready,
-            };
+        match number.checked_sub(1) {
+            Some(task) if task < self.count => self.entries[task],
+            _ => Task::NONE,
         }
-        if self.count < number {
-            return Task {
-                domain: 0,
-                priority: 0,
-                wait: Wait::Ready,
-            };
-        }
-        let at = number - 1;
-        self.entries[at]
     }
 
     // A waiting task becomes ready.
@@ -90,14 +71,8 @@ impl Tasks {
         requires { Held self × (task < length (entries_of self)) }
         ensures { result ≡ tasks_as (entries_of self) (leave (suc task) (waits_of self)) }
     {
-        let order = self.order;
-        let rest = order::without(order, self.waiting, task as u8);
-        let entries = rest.entries;
-        self.order = entries;
-        self.waiting = rest.count;
-        let old = self.entries[task];
-        let ready = old.with_wait(Wait::Ready);
-        self.entries[task] = ready;
+        self.order = self.order.without(task as u8);
+        self.entries[task] = self.entries[task].with_wait(Wait::Ready);
         self
     }
 
@@ -106,12 +81,8 @@ impl Tasks {
         requires { Held self × Free (entries_of self) (waits_of self) task × (is_ready wait ≡ false) }
         ensures { result ≡ tasks_as (entries_of self) (join (waiter_of (suc task) wait) (waits_of self)) }
     {
-        let at = self.waiting;
-        self.order[at] = task as u8;
-        let old = self.entries[task];
-        let waiter = old.with_wait(wait);
-        self.entries[task] = waiter;
-        self.waiting = at + 1;
+        self.order.push(task as u8);
+        self.entries[task] = self.entries[task].with_wait(wait);
         self
     }
 }

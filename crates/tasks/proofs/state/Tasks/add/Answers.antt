@@ -6,11 +6,8 @@ use Rattle.tasks.proofs.Back.{count_seen}
 use Rattle.tasks.proofs.Changes.{add_link, owner_byte}
 use Rattle.tasks.proofs.state.Tasks.add.Goals as goal
 
-pub overflow_cast-self : goal.overflow_cast-self
-overflow_cast-self c = rw (to_z-of_z c.ranges.domain) (owner_byte c.args.domain c.requires.3.0)
-
-pub bounds-self-at : goal.bounds-self-at
-bounds-self-at c = let n = count_seen c.requires.0 in omega arith
+pub bounds-self-self : goal.bounds-self-self
+bounds-self-self c = let n = count_seen c.requires.0 in omega arith
 
 pub returns : goal.returns
 returns c =

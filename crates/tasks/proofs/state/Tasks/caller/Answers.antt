@@ -13,9 +13,10 @@ use Rattle.itron.specs.Limits.{max_tasks}
 use Rattle.access.specs.Domains.{ordinal_of}
 use Rattle.access.proofs.Ordinals.{ordinal_le, numbered_none, numbered_some}
 use Rattle.tasks.specs.View.{no_task}
-use Rattle.tasks.proofs.Places.{idle, busy}
+use Rattle.tasks.proofs.Places.{busy}
+use Rattle.tasks.specs.declared.task.Wait.TheVariants.{Ready}
+use Rattle.tasks.specs.Held.{is_ready}
 use Rattle.tasks.proofs.Callers.{caller_none, caller_busy, caller_ready}
-use borrow.Enum.Refused.{opened}
 use Rattle.tasks.proofs.state.Tasks.caller.Goals as goal
 use Rattle.tasks.proofs.state.Tasks.caller.Goals.{In_ok-ordinal}
 
@@ -36,15 +37,18 @@ offset_bounds-self-task c = omega (arith, low c)
 pub bounds-self-task : goal.bounds-self-task
 bounds-self-task c = low c
 
-pub returns-in-Ready : goal.returns-in-Ready
-returns-in-Ready c =
+pub returns-then-ne : goal.returns-then-ne
+returns-then-ne c =
     let s = c.args.self in
     let k = c.in_ok-ordinal.ordinal in
-    let e : to_z w32 (of_z w32 c.domain-domain.result) ≡ c.domain-domain.result = search rules in
-    ap (λ z. Some (record { task = k - 1; domain = z })) (e ∙ c.domain-domain.ensures)
-    ∙ caller_ready c.requires c.args.number k (number c.before.before.before).0 (number c.before.before.before).1 (idle (get_or s.entries (k - 1) no_task).wait c.in-Ready.in-Ready-own.keys1)
+    let w : (get_or s.entries (k - 1) no_task).wait ≢ Ready = search rules in
+    caller_busy c.requires c.args.number k (number c.before.before.before.before.before).0 (number c.before.before.before.before.before).1 (busy (get_or s.entries (k - 1) no_task).wait w)
 
-pub returns-in_default : goal.returns-in_default
-returns-in_default c =
+pub returns : goal.returns
+returns c =
+    let s = c.args.self in
     let k = c.in_ok-ordinal.ordinal in
-    caller_busy c.requires c.args.number k (number c.before.before.before).0 (number c.before.before.before).1 (busy (get_or c.args.self.entries (k - 1) no_task).wait (opened c.in_default.in_default-own.keys2))
+    let e : to_z w32 (of_z w32 c.domain.result) ≡ c.domain.result = search rules in
+    let w : (get_or s.entries (k - 1) no_task).wait ≡ Ready = search rules in
+    ap (λ z. Some (record { task = k - 1; domain = z })) (e ∙ c.domain.ensures)
+    ∙ caller_ready c.requires c.args.number k (number c.before.before.before.before.before.before).0 (number c.before.before.before.before.before.before).1 (ap is_ready w)

@@ -1,35 +1,35 @@
 -- `Tasks::first` meets its contract: nobody, somebody. Assumes nothing.
-use Prim.Native.Nat.{suc, ◌-◌, ◌<◌}
 use native.Mathlib.Omega.{arith}
-use mathlib.Core.Path.{ap, ◌∙◌}
+use mathlib.Core.Path.{sym, ap, ◌∙◌}
+use Prim.Native.Nat.{ℕ, suc, ◌<◌}
+use Rattle.std.specs.Prelude.{Some}
 use Rattle.itron.specs.Limits.{max_tasks}
 use Rattle.model.specs.State.{place}
-use Rattle.std.specs.Prelude.{Some}
+use Rattle.tasks.specs.Ends.{numbered}
 use Rattle.tasks.proofs.Firsts.{first_none, first_found, first_low}
 use Rattle.tasks.proofs.state.Tasks.first.Goals as goal
+use Rattle.tasks.proofs.state.Tasks.first.Goals.{In_ok-task}
 
-pub returns-then-number-eq0 : goal.returns-then-number-eq0
-returns-then-number-eq0 c =
+pub returns-in_err-task : goal.returns-in_err-task
+returns-in_err-task c =
     let a = c.args in
-    first_none c.requires a.by_priority (place a.side (suc a.object)) c.first_number-number.result c.first_number-number.ensures c.if-number-eq0.true
+    c.from_residual.ensures ∙ first_none c.requires a.by_priority (place a.side (suc a.object)) (sym (ap numbered c.in_err-task.was) ∙ c.foremost.ensures)
 
-pub offset_bounds-entries-task : goal.offset_bounds-entries-task
-offset_bounds-entries-task c =
-    let low : c.first_number-number.result - 1 < max_tasks = let a = c.args in
-    let l = first_low c.requires a.by_priority (place a.side (suc a.object)) c.first_number-number.result c.first_number-number.ensures c.if-number-eq0.false in
+low : (c : In_ok-task) → c.in_ok-task.task < max_tasks
+low c =
+    let a = c.args in
+    let l = first_low c.requires a.by_priority (place a.side (suc a.object)) c.in_ok-task.task (sym (ap numbered c.in_ok-task.was) ∙ c.foremost.ensures) in
     let m = c.requires.fit.tasks in
-    omega arith in
-    let l = low in omega arith
+    omega arith
 
-pub bounds-entries-task : goal.bounds-entries-task
-bounds-entries-task c =
-    let low : c.first_number-number.result - 1 < max_tasks = let a = c.args in
-    let l = first_low c.requires a.by_priority (place a.side (suc a.object)) c.first_number-number.result c.first_number-number.ensures c.if-number-eq0.false in
-    let m = c.requires.fit.tasks in
-    omega arith in
-    let l = low in omega arith
+pub offset_bounds-self-task : goal.offset_bounds-self-task
+offset_bounds-self-task c = omega (arith, low c)
+
+pub bounds-self-task : goal.bounds-self-task
+bounds-self-task c = low c
 
 pub returns : goal.returns
 returns c =
     let a = c.args in
-    ap (λ w. Some (record { task = c.first_number-number.result - 1; word = w })) (cc) ∙ first_found c.requires a.by_priority (place a.side (suc a.object)) c.first_number-number.result c.first_number-number.ensures c.if-number-eq0.false
+    ap (λ (w : ℕ). Some (record { task = c.in_ok-task.task; word = w })) c.word-word.ensures
+    ∙ first_found c.requires a.by_priority (place a.side (suc a.object)) c.in_ok-task.task (sym (ap numbered c.in_ok-task.was) ∙ c.foremost.ensures)

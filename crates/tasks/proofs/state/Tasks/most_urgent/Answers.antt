@@ -1,98 +1,56 @@
--- `Tasks::most_urgent` meets its contract. The loop's invariant: a scan along those at the place has come to the i-th in the order. Assumes nothing.
-use borrow.Author.Rules.{rules}
-use Prim.Native.Nat.{suc, ◌+◌, ◌<◌}
+-- `Tasks::most_urgent` meets its contract: one who stands elsewhere, and one who is looked at. Assumes nothing.
+use Prim.Native.Nat.{ℕ, suc, ◌+◌}
+use mathlib.Core.List.{List}
+use Rattle.std.specs.Prelude.{Some}
+use Rattle.tasks.specs.Leads.{lead, lead_of, leader}
+use Rattle.tasks.specs.Ends.{numbered}
 use native.Mathlib.Omega.{arith}
 use mathlib.Core.Path.{◌≡◌, sym, ap, ◌∙◌}
-use mathlib.Core.List.{[]}
 use lib.ListN.{length, get_or}
-use Rattle.itron.specs.Limits.{max_tasks}
-use Rattle.model.specs.State.{place}
 use Rattle.tasks.specs.View.{waits_of}
-use Rattle.tasks.proofs.Back.{order_low}
+use Rattle.tasks.specs.Places.{place_in}
+use Rattle.tasks.proofs.Back.{index_low}
 use Rattle.tasks.proofs.Waiters.{numbers_from, none_left, pass, here}
-use Rattle.tasks.proofs.Leads.{first_by, scan_start, scan_next, scan_pass, scan_end}
+use Rattle.tasks.proofs.Leads.{first_by, scan_next, scan_pass, scan_end}
 use Rattle.tasks.proofs.Firsts.{first_ranked}
 use Rattle.tasks.proofs.state.Tasks.most_urgent.Invariants.{rank_in}
 use Rattle.tasks.proofs.state.Tasks.most_urgent.Goals as goal
-use Rattle.tasks.proofs.state.Tasks.most_urgent.Goals.{then-waits_at, else-waits_at}
+use Rattle.tasks.proofs.state.Tasks.most_urgent.Goals.{then-is_at, else-is_at, After-map}
+use Rattle.std.proofs.lemmas.Grind.{common_steps}
 
--- nobody waits
-pub returns-then-waiting-eq0 : goal.returns-then-waiting-eq0
-unfolding waits_of
-returns-then-waiting-eq0 c =
+pub bounds-self-task : goal.bounds-self-task
+bounds-self-task c = omega (arith, index_low c.requires _ c.as_slice-order.ensures _ c.loop-task-test.true)
+
+pub bounds-self-task-in-loop-task : goal.bounds-self-task-in-loop-task
+bounds-self-task-in-loop-task c = omega (arith, index_low c.requires _ c.as_slice-order.ensures _ c.loop-task-test.true)
+
+pub loop-task-preserved : goal.loop-task-preserved
+loop-task-preserved c =
     let a = c.args in
-    let p = place a.side (suc a.object) in
-    let n = numbers_from a.self.entries p a.self.order a.self.waiting in
-    let e : n 0 ≡ [] = ap n (sym c.if-waiting-eq0.true) ∙ none_left a.self.entries p a.self.order a.self.waiting in
-    sym (first_ranked c.requires p ∙ ap (first_by (rank_in a.self.entries)) e)
+    let es = a.self.now.entries in
+    let p = place_in a.place in
+    let o = c.as_slice-order.result.now in
+    let i = c.loop-task.task-index in
+    let n = numbers_from es p o in
+    let v = c.loop-task.invariant in
+    elim c.if-is_at.branch [
+      | then-is_at w ↦
+          scan_next (rank_in es) (n 0) (n i) (n (i + 1)) c.loop-task.lead c.if-is_at.lead v (get_or o i 0) (here es p o i c.loop-task-test.true (cc)) (w.lead-is ∙ ap Some (w.after.ensures ∙ ap (λ (j : ℕ). lead_of c.loop-task.lead (lead j (rank_in es (suc j)))) c.from-task.ensures))
+      | else-is_at w ↦
+          scan_pass (rank_in es) (n 0) (n i) (n (i + 1)) c.loop-task.lead c.if-is_at.lead v (pass es p o i c.loop-task-test.true (cc)) w.lead-is
+    ]
 
-pub loop-i-init : goal.loop-i-init
-loop-i-init c = (omega arith, c.requires.room, scan_start _ _)
-
-pub bounds-order-i : goal.bounds-order-i
-bounds-order-i c = omega arith
-
-pub offset_bounds-entries-task : goal.offset_bounds-entries-task
-offset_bounds-entries-task c =
-    let low : get_or c.args.self.order c.loop-i.i 0 < max_tasks = let h = c.requires in
-    let l = order_low h c.loop-i.i (omega arith) in
-    let m = h.fit.tasks in
-    omega arith in
-    let l = low in omega arith
-
-pub bounds-entries-task : goal.bounds-entries-task
-bounds-entries-task c =
-    let low : get_or c.args.self.order c.loop-i.i 0 < max_tasks = let h = c.requires in
-    let l = order_low h c.loop-i.i (omega arith) in
-    let m = h.fit.tasks in
-    omega arith in
-    let l = low in omega arith
-
-pub waits_at-requires : goal.waits_at-requires
-waits_at-requires c = tt
-
-pub overflow_add-number : goal.overflow_add-number
-overflow_add-number c =
-    let low : get_or c.args.self.order c.loop-i.i 0 < max_tasks = let h = c.requires in
-    let l = order_low h c.loop-i.i (omega arith) in
-    let m = h.fit.tasks in
-    omega arith in
-    let l = low in omega arith
-
-pub against-lead-requires : goal.against-lead-requires
-against-lead-requires c = tt
-
-pub overflow_add-i : goal.overflow_add-i
-overflow_add-i c = omega arith
-
-pub loop-i-smaller : goal.loop-i-smaller
-loop-i-smaller c = omega arith
-
-pub loop-i-preserved : goal.loop-i-preserved
-loop-i-preserved c =
-    let a = c.args in
-    let es = a.self.entries in
-    let r = rank_in es in
-    let p = place a.side (suc a.object) in
-    let i = c.loop-i.i in
-    let n = numbers_from es p a.self.order a.self.waiting in
-    let v = c.loop-i.invariant.2 in
-    let l : length a.self.order ≡ max_tasks = search rules in (
-      omega arith,
-      omega arith,
-      elim c.if-waits_at.branch [
-        | then-waits_at w ↦
-            scan_next r (n 0) (n i) (n (i + 1)) c.loop-i.lead c.if-waits_at.lead v (get_or a.self.order i 0) (here es p a.self.order a.self.waiting i (omega arith) (omega arith) (cc)) (w.lead-is ∙ w.against-lead.ensures)
-        | else-waits_at w ↦
-            scan_pass r (n 0) (n i) (n (i + 1)) c.loop-i.lead c.if-waits_at.lead v (pass es p a.self.order a.self.waiting i (omega arith) (omega arith) (cc)) w.lead-is
-      ],
-    )
+task_of_lead : (c : After-map) → numbered c.map.result ≡ leader c.loop-task.lead
+task_of_lead c = grind (arith, common_steps)
 
 pub returns : goal.returns
 unfolding waits_of
 returns c =
     let a = c.args in
-    let p = place a.side (suc a.object) in
-    let n = numbers_from a.self.entries p a.self.order a.self.waiting in
-    let i : c.loop-i.i ≡ a.self.waiting = omega arith in
-    sym (first_ranked c.requires p ∙ scan_end (rank_in a.self.entries) (n 0) (n c.loop-i.i) c.loop-i.lead (ap n i ∙ none_left a.self.entries p a.self.order a.self.waiting) c.loop-i.invariant.2)
+    let es = a.self.now.entries in
+    let p = place_in a.place in
+    let o = c.as_slice-order.result.now in
+    let n = numbers_from es p o in
+    let i : c.loop-task.task-index ≡ length o = omega arith in
+    task_of_lead c ∙ sym (scan_end (rank_in es) (n 0) (n c.loop-task.task-index) c.loop-task.lead (ap n i ∙ none_left es p o) c.loop-task.invariant)
+    ∙ ap (λ (l : List ℕ). first_by (rank_in es) (numbers_from es p l 0)) c.as_slice-order.ensures ∙ sym (first_ranked c.requires p)

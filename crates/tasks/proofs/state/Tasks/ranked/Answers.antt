@@ -1,42 +1,34 @@
--- `Tasks::ranked` meets its contract. The loop's invariant: who is asked for has `ahead` before it among those who are left. Assumes nothing.
-use Prim.Native.Nat.{ℕ, suc}
+-- `Tasks::ranked` meets its contract: who is first leaves, or nobody is left. Assumes nothing.
+use Prim.Native.Nat.{ℕ, suc, ◌+◌, ◌-◌}
 use native.Mathlib.Omega.{arith}
-use mathlib.Core.Path.{◌≡◌, refl, sym, ap, ◌∙◌}
+use mathlib.Core.Path.{◌≡◌, sym, ap, ◌∙◌}
 use mathlib.Core.Bool.{true}
 use mathlib.Core.List.{map}
 use lib.ListN.{get_or}
-use Rattle.model.specs.State.{place}
-use Rattle.tasks.specs.Ends.{task_in}
-use Rattle.tasks.proofs.Firsts.{queue_at, first_task_lem, none_behind, first_low, held_behind, behind}
+use Rattle.tasks.specs.Ends.{task_in, numbered}
+use Rattle.tasks.specs.Places.{place_in}
+use Rattle.tasks.proofs.Firsts.{queue_at, none_behind, first_low, held_behind, behind}
 use Rattle.tasks.proofs.state.Tasks.ranked.Goals as goal
 
-pub loop-ahead-init : goal.loop-ahead-init
-loop-ahead-init c = (c.requires, refl)
-
-pub returns-then-number-eq0 : goal.returns-then-number-eq0
-returns-then-number-eq0 c =
-    let v = c.loop-ahead.invariant in
-    none_behind v.0 true (place c.args.side (suc c.args.object)) c.most_urgent-number.result c.most_urgent-number.ensures c.if-number-eq0.true c.loop-ahead.ahead ∙ sym v.1
+pub returns-in_err-task : goal.returns-in_err-task
+returns-in_err-task c =
+    let v = c.ahead.invariant in
+    ap numbered c.from_residual.ensures ∙ none_behind v.0 true (place_in c.args.place) (sym (ap numbered c.in_err-task.was) ∙ c.most_urgent.ensures) (c.args.k - c.ahead.counter) ∙ sym v.1
 
 pub release-self-requires : goal.release-self-requires
 release-self-requires c =
-    let h = c.loop-ahead.invariant.0 in
-    (h, first_low h true (place c.args.side (suc c.args.object)) c.most_urgent-number.result c.most_urgent-number.ensures c.if-number-eq0.false)
+    let h = c.ahead.invariant.0 in
+    (h, first_low h true (place_in c.args.place) c.in_ok-task.task (sym (ap numbered c.in_ok-task.was) ∙ c.most_urgent.ensures))
 
-pub loop-ahead-smaller : goal.loop-ahead-smaller
-loop-ahead-smaller c = omega arith
-
-pub loop-ahead-preserved : goal.loop-ahead-preserved
-loop-ahead-preserved c =
+pub ahead-preserved : goal.ahead-preserved
+ahead-preserved c =
     let a = c.args in
-    let v = c.loop-ahead.invariant in
-    let p = place a.side (suc a.object) in
-    let z = c.if-number-eq0.false in
-    (held_behind v.0 true p c.most_urgent-number.result c.most_urgent-number.ensures z c.release-self.result c.release-self.ensures, v.1 ∙ behind v.0 true p c.most_urgent-number.result c.most_urgent-number.ensures z c.release-self.result c.release-self.ensures c.loop-ahead.ahead (λ q. omega arith))
-
-pub returns : goal.returns
-returns c =
-    let a = c.args in
-    let l = queue_at c.loop-ahead.self true (place a.side (suc a.object)) in
-    let n : 0 ≡ c.loop-ahead.ahead = omega arith in
-    c.most_urgent.ensures ∙ sym (first_task_lem l) ∙ ap (λ (k : ℕ). get_or (map task_in l) k 0) n ∙ sym c.loop-ahead.invariant.1
+    let v = c.ahead.invariant in
+    let p = place_in a.place in
+    let i = c.in_ok-task.task in
+    let e = sym (ap numbered c.in_ok-task.was) ∙ c.most_urgent.ensures in
+    let t = c.release-self.result in
+    let n : a.k - c.ahead.counter ≡ suc (a.k - (c.ahead.counter + 1)) = omega arith in (
+      held_behind v.0 true p i e t c.release-self.ensures,
+      v.1 ∙ ap (λ (m : ℕ). get_or (map task_in (queue_at c.ahead.self true p)) m 0) n ∙ behind v.0 true p i e t c.release-self.ensures (a.k - (c.ahead.counter + 1)),
+    )

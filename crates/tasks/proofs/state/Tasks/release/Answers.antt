@@ -4,4 +4,4 @@ use Rattle.tasks.proofs.state.Tasks.release.Goals as goal
 
 pub returns : goal.returns
 returns c =
-    release_link c.requires.0 c.args.task c.with_wait-ready.result c.without-rest.result c.requires.1 c.with_wait-ready.ensures c.without-rest.ensures
+    release_link c.requires.0 c.args.task c.with_wait.result c.without-self.result c.requires.1 c.with_wait.ensures c.without-self.ensures

@@ -1,20 +1,21 @@
 -- `Tasks::waiter` meets its contract: by priority, as they came. Assumes nothing.
+use native.Mathlib.Omega.{arith}
 use Prim.Native.Nat.{suc}
-use mathlib.Core.Path.{sym, ap, ◌∙◌}
-use mathlib.Core.Bool.{Bool}
-use mathlib.Core.List.{map}
-use lib.ListN.{get_or}
+use mathlib.Core.Bool.{true, false}
 use Rattle.model.specs.State.{place}
-use Rattle.tasks.specs.Ends.{task_in}
-use Rattle.tasks.proofs.Firsts.{queue_at}
+use Rattle.tasks.proofs.Firsts.{nth_low}
 use Rattle.tasks.proofs.state.Tasks.waiter.Goals as goal
 
-pub returns-then-by_priority : goal.returns-then-by_priority
-returns-then-by_priority c =
+pub number_of-requires : goal.number_of-requires
+number_of-requires c =
     let a = c.args in
-    c.ranked.ensures ∙ ap (λ (b : Bool). get_or (map task_in (queue_at a.self b (place a.side (suc a.object)))) a.k 0) (sym c.if-by_priority.true)
+    let l = nth_low c.requires true (place a.side (suc a.object)) a.k in
+    let m = c.requires.fit.tasks in
+    omega (arith, c.ranked.ensures)
 
-pub returns : goal.returns
-returns c =
+pub number_of-requires-2 : goal.number_of-requires-2
+number_of-requires-2 c =
     let a = c.args in
-    c.arrived.ensures ∙ ap (λ (b : Bool). get_or (map task_in (queue_at a.self b (place a.side (suc a.object)))) a.k 0) (sym c.if-by_priority.false)
+    let l = nth_low c.requires false (place a.side (suc a.object)) a.k in
+    let m = c.requires.fit.tasks in
+    omega (arith, c.arrived.ensures)
