@@ -4,14 +4,14 @@ ghost use Rattle.model.specs.Lists.{at};
 ghost use Rattle.model.specs.State.{no_region};
 ghost use Rattle.model.specs.Regions.{end};
 ghost use Rattle.regions.specs.View.{region_with, regions_of, info_of, shown_as};
-ghost use Rattle.regions.specs.Form.{regions_as};
+ghost use Rattle.regions.specs.Form.{protection_of, regions_as};
 ghost use Rattle.regions.specs.Held.{Held};
 
 use access::vector::Vector;
 use itron::limit::MAX_REGIONS;
 
 // What a region has besides its place.
-#[derive(Clone, Copy)]
+#[derive(Clone, Copy, PartialEq, Eq)]
 pub struct Protection {
     pub(crate) domain: i32,
     pub(crate) attribute: u32,
@@ -67,6 +67,17 @@ impl RegionInfo {
             base,
             size,
             vector,
+        }
+    }
+
+    // What it has besides its place.
+    pub(crate) fn protection(self) -> Protection
+        ensures { result ≡ protection_of (shown_as self) }
+    {
+        Protection {
+            domain: self.domain,
+            attribute: self.attribute,
+            vector: self.vector,
         }
     }
 
