@@ -129,12 +129,9 @@ impl Regions {
         requires { Held self }
         ensures { result ≡ info_of (at no_region (regions_of self) number) }
     {
-        if number == 0 {
-            return RegionInfo::NONE;
+        match number.checked_sub(1) {
+            Some(index) if index < self.count => self.at(index),
+            _ => RegionInfo::NONE,
         }
-        if self.count < number {
-            return RegionInfo::NONE;
-        }
-        self.at(number - 1)
     }
 }
