@@ -1,6 +1,6 @@
 // Domain numbers: special domains are below zero, user domains count from 1.
 ghost use Rattle.std.specs.Prelude.{◌≡◌};
-ghost use Rattle.access.specs.Domains.{ordinal_of, numbered, same_domain, running_of};
+ghost use Rattle.access.specs.Domains.{ordinal_of, numbered, running_of};
 
 pub const KERNEL_DOMAIN: i32 = -1;
 
@@ -19,13 +19,6 @@ pub fn ordinal(number: i32, limit: usize) -> Option<usize>
         return None;
     }
     Some(n)
-}
-
-// Whether two domain numbers are the same.
-pub fn is_same(domain: i32, other: i32) -> bool
-    ensures { result ≡ same_domain domain other }
-{
-    domain == other
 }
 
 // The domain as which a task of a domain runs: inside extended service calls, that is above level 0, it is the kernel's.

@@ -1,6 +1,6 @@
 // Access vectors: a pattern for each kind of operation.
 ghost use Rattle.std.specs.Prelude.{◌≡◌};
-ghost use Rattle.access.specs.Vectors.{pattern_of, same_vector, private_of, default_of, resolved};
+ghost use Rattle.access.specs.Vectors.{pattern_of, private_of, default_of, resolved};
 
 use crate::domain::{NO_DOMAIN, ordinal};
 use itron::limit::MAX_DOMAINS;
@@ -14,7 +14,7 @@ pub enum Operation {
     Reference,
 }
 
-#[derive(Clone, Copy)]
+#[derive(Clone, Copy, PartialEq, Eq)]
 pub struct Vector {
     pub normal1: u32,
     pub normal2: u32,
@@ -71,16 +71,6 @@ impl Vector {
         given.unwrap_or(Vector::default_for(domain))
     }
 
-    // Whether all four patterns are the same.
-    pub fn equals(self, other: Vector) -> bool
-        ensures { result ≡ same_vector self other }
-    {
-        (self.normal1 == other.normal1)
-            & (self.normal2 == other.normal2)
-            & (self.management == other.management)
-            & (self.reference == other.reference)
-    }
-
     pub fn pattern(self, operation: Operation) -> u32
         ensures { result ≡ pattern_of self operation }
     {
@@ -92,4 +82,3 @@ impl Vector {
         }
     }
 }
-

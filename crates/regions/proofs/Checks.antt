@@ -1,5 +1,5 @@
 -- Laws of the checks of an entry and of the verdict, in the form in which the code tests. Assumes nothing.
-use Prim.Native.Nat.{ℕ, zero, suc, ◌+◌, ◌-◌, ◌<◌}
+use Prim.Native.Nat.{ℕ, zero, suc, ◌+◌, ◌<◌}
 use native.Mathlib.Omega.{arith}
 use mathlib.Core.Path.{◌≡◌, refl, sym, ap, ◌∙◌, subst}
 use mathlib.Core.Bool.{Bool, true, false, not, ◌&&◌}
@@ -57,15 +57,11 @@ end_last : (r : Region) (rs : List Region) → end (get_or (r ∷ rs) (length rs
 end_last r [] = refl
 end_last r (x ∷ rs) = end_last x rs
 
-pub end_at : (rs : List Region) (n : ℕ) → n ≡ length rs → (n ≡ 0 → ⊥) → end (get_or rs (n - 1) no_region) ≡ last_end rs
-end_at [] n e h = absurd (h e)
-end_at (r ∷ rs) n e h = let k : n - 1 ≡ length rs = omega arith in ap (λ (i : ℕ). end (get_or (r ∷ rs) i no_region)) k ∙ end_last r rs
+pub end_at : (rs : List Region) (last : ℕ) → suc last ≡ length rs → end (get_or rs last no_region) ≡ last_end rs
+end_at [] last e = absurd (omega arith)
+end_at (r ∷ rs) last e = let k : last ≡ length rs = omega arith in ap (λ (i : ℕ). end (get_or (r ∷ rs) i no_region)) k ∙ end_last r rs
 
 -- ---- a region by its number
 pub at_none : (rs : List Region) (n : ℕ) → length rs < n → no_region ≡ at no_region rs n
 at_none rs zero h = refl
 at_none rs (suc i) h = sym (get_or-eq_default rs no_region {n = i} (omega arith))
-
-pub at_number : (rs : List Region) (n : ℕ) → (n ≡ 0 → ⊥) → get_or rs (n - 1) no_region ≡ at no_region rs n
-at_number rs zero h = absurd (h refl)
-at_number rs (suc i) h = ap (λ (k : ℕ). get_or rs k no_region) (omega arith)

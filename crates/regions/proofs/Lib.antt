@@ -4,5 +4,6 @@ pub mod Searches
 pub mod Halving
 pub mod Chains
 pub mod Checks
+pub mod Bits
 pub mod Units
 pub mod OneRegion

@@ -5,7 +5,6 @@ ghost use Rattle.regions.specs.View.{regions_of, shown_as};
 ghost use Rattle.regions.specs.Held.{Indexed};
 
 use crate::state::{RegionInfo, Regions};
-use access::domain::is_same;
 
 impl RegionInfo {
     // Whether the next region begins where this one ends.
@@ -19,9 +18,7 @@ impl RegionInfo {
     pub(crate) fn equals(self, other: RegionInfo) -> bool
         ensures { result ≡ is_equal (shown_as self) (shown_as other) }
     {
-        is_same(self.domain, other.domain)
-            & (self.attribute == other.attribute)
-            & self.vector.equals(other.vector)
+        self.protection() == other.protection()
     }
 }
 

@@ -30,10 +30,7 @@ pub struct RegionEntry {
 pub(crate) fn is_attribute(attribute: u32) -> bool
     ensures { result ≡ attribute_ok attribute }
 {
-    (attribute == 0)
-        | (attribute == NO_WRITE)
-        | (attribute == EXECUTABLE)
-        | (attribute == NO_WRITE + EXECUTABLE)
+    attribute & (NO_WRITE | EXECUTABLE) == attribute
 }
 
 // Whether an area has bytes and ends within the addresses. The sum is made in 64 bits.
@@ -49,11 +46,10 @@ impl Regions {
         requires { Held self }
         ensures { result ≡ last_end (regions_of self) }
     {
-        let count = self.count;
-        if count == 0 {
+        let Some(last) = self.count.checked_sub(1) else {
             return 0;
-        }
-        self.at(count - 1).end()
+        };
+        self.at(last).end()
     }
 
     // An entry's attribute and numbers, by the checks of document 01 in their order.

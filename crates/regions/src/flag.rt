@@ -1,6 +1,6 @@
 // Bit values of a region's attribute and of the wishes, as document 01 fixes them.
-ghost use Rattle.std.specs.Prelude.{◌≡◌, ◌<◌};
-ghost use Rattle.regions.specs.Flags.{has_value};
+ghost use Rattle.std.specs.Prelude.{◌≡◌};
+ghost use Rattle.regions.specs.Flags.{IsBit, has_value};
 
 // The attribute: nobody writes.
 pub const NO_WRITE: u32 = 1;
@@ -14,10 +14,10 @@ pub const READ: u32 = 2;
 
 pub const EXECUTE: u32 = 4;
 
-// Whether the bit of that value is set.
+// Whether the bit of that value, which is a power of two, is set.
 pub(crate) fn has(flags: u32, value: u32) -> bool
-    requires { 0 < value }
+    requires { IsBit value }
     ensures { result ≡ has_value flags value }
 {
-    flags / value % 2 == 1
+    flags & value != 0
 }

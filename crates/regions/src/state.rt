@@ -4,14 +4,14 @@ ghost use Rattle.model.specs.Lists.{at};
 ghost use Rattle.model.specs.State.{no_region};
 ghost use Rattle.model.specs.Regions.{end};
 ghost use Rattle.regions.specs.View.{region_with, regions_of, info_of, shown_as};
-ghost use Rattle.regions.specs.Form.{regions_as};
+ghost use Rattle.regions.specs.Form.{protection_of, regions_as};
 ghost use Rattle.regions.specs.Held.{Held};
 
 use access::vector::Vector;
 use itron::limit::MAX_REGIONS;
 
 // What a region has besides its place.
-#[derive(Clone, Copy)]
+#[derive(Clone, Copy, PartialEq, Eq)]
 pub struct Protection {
     pub(crate) domain: i32,
     pub(crate) attribute: u32,
@@ -70,6 +70,17 @@ impl RegionInfo {
         }
     }
 
+    // What it has besides its place.
+    pub(crate) fn protection(self) -> Protection
+        ensures { result ≡ protection_of (shown_as self) }
+    {
+        Protection {
+            domain: self.domain,
+            attribute: self.attribute,
+            vector: self.vector,
+        }
+    }
+
     // The first address past the region, in 64 bits since it may be 2^32.
     pub(crate) fn end(self) -> u64
         ensures { result ≡ end (shown_as self) }
@@ -118,12 +129,9 @@ impl Regions {
         requires { Held self }
         ensures { result ≡ info_of (at no_region (regions_of self) number) }
     {
-        if number == 0 {
-            return RegionInfo::NONE;
+        match number.checked_sub(1) {
+            Some(index) if index < self.count => self.at(index),
+            _ => RegionInfo::NONE,
         }
-        if self.count < number {
-            return RegionInfo::NONE;
-        }
-        self.at(number - 1)
     }
 }

@@ -1,9 +1,12 @@
 -- `RegionInfo::allows` meets its contract: write, read, execute. Assumes nothing.
-use mathlib.Core.Path.{◌∙◌}
+use mathlib.Core.Path.{refl, ◌∙◌}
 use mathlib.Core.Bool.{◌&&◌}
 use mir.Facts.{to_z-of_z}
 use Rattle.model.specs.Regions.{grants}
 use Rattle.regions.proofs.state.RegionInfo.allows.Goals as goal
+
+pub has-requires-3 : goal.has-requires-3
+has-requires-3 c = (2, refl)
 
 pub returns : goal.returns
 returns c =
