@@ -121,10 +121,8 @@ impl State {
         requires { Valid self }
         ensures { result.now ≡ handed_bytes (view_of self) domain base size (image bases.flash flash.now) (image bases.ram ram.now) }
     {
-        if self
-            .hand_out(domain, base, size, bases, flash, ram)
-            .is_err()
-        {
+        let allowed = self.hand_out(domain, base, size, bases, flash, ram);
+        if allowed.is_err() {
             return &flash[0..0];
         }
         part(bases, flash, ram, base, size)

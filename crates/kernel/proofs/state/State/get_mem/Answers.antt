@@ -8,9 +8,9 @@ use Rattle.kernel.proofs.state.State.get_mem.Goals as goal
 pub returns-then-is_err : goal.returns-then-is_err
 returns-then-is_err c =
     let a = c.args in
-    part_refused a.self a.domain a.base a.size (image a.bases.flash a.flash.now) (image a.bases.ram a.ram.now) (rw (to_z-of_z c.ranges.domain) at c.hand_out.ensures) (sym c.is_err.ensures.value ∙ c.if-is_err.true)
+    part_refused a.self a.domain a.base a.size (image a.bases.flash a.flash.now) (image a.bases.ram a.ram.now) (rw (to_z-of_z c.ranges.domain) at c.hand_out-allowed.ensures) (sym c.is_err.ensures.value ∙ c.if-is_err.true)
 
 pub returns : goal.returns
 returns c =
     let a = c.args in
-    c.part.ensures ∙ part_ok a.self a.domain a.base a.size (image a.bases.flash a.flash.now) (image a.bases.ram a.ram.now) (rw (to_z-of_z c.ranges.domain) at c.hand_out.ensures) (sym c.is_err.ensures.value ∙ c.if-is_err.false)
+    c.part.ensures ∙ part_ok a.self a.domain a.base a.size (image a.bases.flash a.flash.now) (image a.bases.ram a.ram.now) (rw (to_z-of_z c.ranges.domain) at c.hand_out-allowed.ensures) (sym c.is_err.ensures.value ∙ c.if-is_err.false)
