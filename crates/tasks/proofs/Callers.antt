@@ -8,11 +8,13 @@ use lib.Dec.{eqb, leb}
 use lib.IntN.{ℤ}
 use lib.ListN.{length, get_or}
 use borrow.Author.Tests.{le-leb, lt-leb, ne_eqb}
-use Rattle.access.specs.Domains.{ordinal_of}
+use Rattle.access.specs.Domains.{ordinal_of, numbered}
+use Rattle.access.proofs.Ordinals.{numbered_none, numbered_some}
+use Rattle.itron.specs.Limits.{max_tasks}
 use Rattle.model.specs.Lists.{at}
 use Rattle.model.specs.Waits.{absent}
 use Rattle.model.specs.State.{no, no_task as no_entry}
-use Rattle.model.proofs.Ordinals.{outside, within}
+use Rattle.model.proofs.Ordinals.{outside, within, Within}
 use Rattle.tasks.specs.declared.task.Task.{Task}
 use Rattle.tasks.specs.declared.state.Tasks.{Tasks}
 use Rattle.std.specs.Prelude.{Option, Some, None}
@@ -21,33 +23,39 @@ use Rattle.tasks.specs.View.{no_task, entries_of, waits_of}
 use Rattle.tasks.specs.Form.{task_as, wait_for}
 use Rattle.tasks.specs.Held.{Held, is_ready}
 use Rattle.tasks.specs.Ends.{is_task, caller_of, task_of}
+use Rattle.tasks.specs.declared.task.Wait.TheVariants.{Ready}
+use Rattle.tasks.proofs.Places.{busy}
 use Rattle.tasks.proofs.Waits.{ready_absent}
 use Rattle.tasks.proofs.Back.{count_seen, entry_seen}
 
 -- ---- who calls
 module _ {t : Tasks} (h : Held t) (z : ℤ) where
-  pub caller_none : ordinal_of z t.count ≡ 0 → None ≡ caller_of (entries_of t) (waits_of t) (no z)
+  pub caller_none : None ≡ numbered (ordinal_of z t.count) → None ≡ caller_of (entries_of t) (waits_of t) (no z)
   caller_none e =
-      let o : is_task (entries_of t) (no z) ≡ false = ap (λ (n : ℕ). not (eqb (no z) 0) && leb (no z) n) (sym (count_seen h)) ∙ outside z t.count e in
+      let o : is_task (entries_of t) (no z) ≡ false = ap (λ (n : ℕ). not (eqb (no z) 0) && leb (no z) n) (sym (count_seen h)) ∙ outside z t.count (numbered_none (ordinal_of z t.count) (sym e)) in
       rw o
 
-  module _ (k : ℕ) (e : k ≡ ordinal_of z t.count) (n : k ≢ 0) where
+  module _ (k : ℕ) (e : Some k ≡ numbered (ordinal_of z t.count)) where
+    at_number : Within z t.count k
+    at_number = let n = numbered_some (ordinal_of z t.count) k (sym e) in within z t.count k n.0 n.1
+
     is_task_lem : is_task (entries_of t) (no z) ≡ true
-    is_task_lem = ap (λ (m : ℕ). not (eqb (no z) 0) && leb (no z) m) (sym (count_seen h)) ∙ (within z t.count k e n).test
+    is_task_lem = ap (λ (m : ℕ). not (eqb (no z) 0) && leb (no z) m) (sym (count_seen h)) ∙ at_number.test
+
+    pub caller_low : k - 1 < max_tasks
+    caller_low = let l = at_number.low in let m = h.few in omega arith
 
     at_row : get_or t.entries (k - 1) no_task ≡ task_as (get_or (entries_of t) (k - 1) no_entry) (wait_for (suc (k - 1)) (waits_of t))
-    at_row = entry_seen h (k - 1) (let c = count_seen h in let l = (within z t.count k e n).low in omega arith)
+    at_row = entry_seen h (k - 1) (let c = count_seen h in let l = at_number.low in omega arith)
 
     ready_by : absent (no z) (waits_of t) ≡ is_ready (get_or t.entries (k - 1) no_task).wait
-    ready_by =
-        ap (λ (m : ℕ). absent m (waits_of t)) (within z t.count k e n).same
-        ∙ sym (ap (λ (x : Task). is_ready x.wait) at_row ∙ ready_absent (suc (k - 1)) (waits_of t))
+    ready_by = ap (λ (m : ℕ). absent m (waits_of t)) at_number.same ∙ sym (ap (λ (x : Task). is_ready x.wait) at_row ∙ ready_absent (suc (k - 1)) (waits_of t))
 
-    pub caller_busy : is_ready (get_or t.entries (k - 1) no_task).wait ≡ false → None ≡ caller_of (entries_of t) (waits_of t) (no z)
-    caller_busy b = rw (is_task_lem, ready_by, b)
+    pub caller_busy : (get_or t.entries (k - 1) no_task).wait ≢ Ready → None ≡ caller_of (entries_of t) (waits_of t) (no z)
+    caller_busy b = rw (is_task_lem, ready_by, busy (get_or t.entries (k - 1) no_task).wait b)
 
-    pub caller_ready : is_ready (get_or t.entries (k - 1) no_task).wait ≡ true → ◌≡◌ {A = Option Caller} (Some (record { task = k - 1; domain = (get_or t.entries (k - 1) no_task).domain })) (caller_of (entries_of t) (waits_of t) (no z))
-    caller_ready b = let d = ap (λ (x : Task). x.domain) at_row in rw (is_task_lem, ready_by, b, (within z t.count k e n).same, d)
+    pub caller_ready : (get_or t.entries (k - 1) no_task).wait ≡ Ready → ◌≡◌ {A = Option Caller} (Some (record { task = k - 1; domain = (get_or t.entries (k - 1) no_task).domain })) (caller_of (entries_of t) (waits_of t) (no z))
+    caller_ready b = let d = ap (λ (x : Task). x.domain) at_row in rw (is_task_lem, ready_by, ap is_ready b, at_number.same, d)
 
 -- ---- the task with a number
 module _ {t : Tasks} (h : Held t) (n : ℕ) where

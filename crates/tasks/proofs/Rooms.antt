@@ -4,7 +4,7 @@ use mathlib.Core.Path.{◌≡◌, refl, sym, ◌∙◌}
 use mathlib.Core.Bool.{Bool}
 use mathlib.Core.List.{List, [], ◌∷◌}
 use Rattle.itron.specs.Codes.{ok, ok_number, number_of}
-use Rattle.itron.specs.declared.error.Error.{Error as Err}
+use Rattle.itron.specs.declared.error.Error.{Error as Refusal}
 use Rattle.model.specs.State.{TaskEntry, Waiter, Place}
 use Rattle.model.specs.Answers.{Effect, effect, no_info, say, tells, plain, reply_of}
 use Rattle.model.specs.Waits.{leave, refusal, wakes, or_waits, gives}
@@ -36,7 +36,7 @@ module _ {R P E : Type 0} (form : List R → P) (made : Reply → Info → Tasks
     pub gives_by : (w : ℕ) → made (reply_of (say ok w [])) no_info ts q ≡ effect_by (entries_of ts) (gives (waits_of ts) xs w)
     gives_by w = same_tasks (reply_of (say ok w [])) no_info
 
-    pub refuses_by : (e : Err) → made (plain (number_of e) 0) no_info ts q ≡ effect_by (entries_of ts) (refusal (waits_of ts) xs e)
+    pub refuses_by : (e : Refusal) → made (plain (number_of e) 0) no_info ts q ≡ effect_by (entries_of ts) (refusal (waits_of ts) xs e)
     refuses_by e = same_tasks (plain (number_of e) 0) no_info
 
     pub tells_by : (i : Info) → made (plain ok_number 0) i ts q ≡ effect_by (entries_of ts) (effect (tells i) (waits_of ts) xs)

@@ -20,9 +20,9 @@ first_of [] = None
 first_of (e ∷ l) = Some (record { task = index e.task; word = e.word })
 
 -- the number of the task with an index, 0 of none
-abbrev pub numbered : Option ℕ → ℕ
-numbered None = 0
-numbered (Some i) = suc i
+abbrev pub task_number : Option ℕ → ℕ
+task_number None = 0
+task_number (Some i) = suc i
 
 -- the number of a waiting task
 abbrev pub task_in : Waiter → ℕ

@@ -8,8 +8,8 @@ use itron::limit::MAX_TASKS;
 // Indexes of tasks by arrival: the first `count` entries; the others are 0.
 #[derive(Clone, Copy)]
 pub(crate) struct Order {
-    pub(crate) entries: [u8; MAX_TASKS],
-    pub(crate) count: usize,
+    entries: [u8; MAX_TASKS],
+    count: usize,
 }
 
 impl Order {

@@ -6,7 +6,7 @@ ghost use Rattle.model.specs.Waits.{waiters_in, standing, first_task, or_waits};
 ghost use Rattle.tasks.specs.View.{entries_of, waits_of, waiter_of};
 ghost use Rattle.tasks.specs.Held.{Held, Free, is_ready};
 ghost use Rattle.tasks.specs.Places.{place_in};
-ghost use Rattle.tasks.specs.Ends.{numbered, first_of, task_in, caller_of, ended_of, woken_of};
+ghost use Rattle.tasks.specs.Ends.{task_number, first_of, task_in, caller_of, ended_of, woken_of};
 
 use crate::lead::Lead;
 use crate::state::Tasks;
@@ -37,9 +37,9 @@ pub struct Ended {
 }
 
 // The number of the task with an index; 0 if there is none.
-pub(crate) fn number_of(task: Option<usize>) -> usize
-    requires { numbered task ≤ max_tasks }
-    ensures { result ≡ numbered task }
+pub(crate) fn task_number(task: Option<usize>) -> usize
+    requires { task_number task ≤ max_tasks }
+    ensures { result ≡ task_number task }
 {
     task.map_or(0, |task| task + 1)
 }
@@ -48,7 +48,7 @@ impl Tasks {
     // The index of the one who waits at a place and came with k ahead of it; none if no more than k do.
     pub(crate) fn arrived(&self, place: Place, k: usize) -> Option<usize>
         requires { Held self.now }
-        ensures { numbered result ≡ get_or (map task_in (waiters_in (waits_of self.now) (place_in place))) k 0 }
+        ensures { task_number result ≡ get_or (map task_in (waiters_in (waits_of self.now) (place_in place))) k 0 }
     {
         let mut ahead = k;
         let order = self.order.as_slice();
@@ -67,7 +67,7 @@ impl Tasks {
     // The index of the most urgent who waits at a place, of equals the one who came first; none if nobody does.
     pub(crate) fn most_urgent(&self, place: Place) -> Option<usize>
         requires { Held self.now }
-        ensures { numbered result ≡ first_task (standing true (entries_of self.now) (waiters_in (waits_of self.now) (place_in place))) }
+        ensures { task_number result ≡ first_task (standing true (entries_of self.now) (waiters_in (waits_of self.now) (place_in place))) }
     {
         let mut lead: Option<Lead> = None;
         let order = self.order.as_slice();
@@ -84,7 +84,7 @@ impl Tasks {
     // The index of the one who stands at a place by priority with k ahead of it; none if no more than k do.
     pub(crate) fn ranked(mut self, place: Place, k: usize) -> Option<usize>
         requires { Held self }
-        ensures { numbered result ≡ get_or (map task_in (standing true (entries_of self) (waiters_in (waits_of self) (place_in place)))) k 0 }
+        ensures { task_number result ≡ get_or (map task_in (standing true (entries_of self) (waiters_in (waits_of self) (place_in place)))) k 0 }
     {
         'ahead: for _ in 0..k {
             // Who is ahead leaves the copy that is searched.
@@ -101,15 +101,15 @@ impl Tasks {
     {
         let place = Place { side, object };
         if by_priority {
-            return number_of(self.ranked(place, k));
+            return task_number(self.ranked(place, k));
         }
-        number_of(self.arrived(place, k))
+        task_number(self.arrived(place, k))
     }
 
     // The index of the first who stands at a place, by priority or as they came; none if nobody does.
     pub(crate) fn foremost(&self, place: Place, by_priority: bool) -> Option<usize>
         requires { Held self.now }
-        ensures { numbered result ≡ first_task (standing by_priority (entries_of self.now) (waiters_in (waits_of self.now) (place_in place))) }
+        ensures { task_number result ≡ first_task (standing by_priority (entries_of self.now) (waiters_in (waits_of self.now) (place_in place))) }
     {
         if by_priority {
             return self.most_urgent(place);
@@ -132,7 +132,7 @@ impl Tasks {
         requires { Held self }
         ensures { result ≡ first_task (standing by_priority (entries_of self) (waiters_in (waits_of self) (place side (suc object)))) }
     {
-        number_of(self.foremost(Place { side, object }, by_priority))
+        task_number(self.foremost(Place { side, object }, by_priority))
     }
 
     // Who calls under a number: only a registered ready task may.

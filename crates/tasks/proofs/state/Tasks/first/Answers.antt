@@ -1,11 +1,10 @@
 -- `Tasks::first` meets its contract: nobody, somebody. Assumes nothing.
 use native.Mathlib.Omega.{arith}
-use mathlib.Core.Path.{sym, ap, ◌∙◌}
+use mathlib.Core.Path.{ap, ◌∙◌}
 use Prim.Native.Nat.{ℕ, suc, ◌<◌}
 use Rattle.std.specs.Prelude.{Some}
 use Rattle.itron.specs.Limits.{max_tasks}
 use Rattle.model.specs.State.{place}
-use Rattle.tasks.specs.Ends.{numbered}
 use Rattle.tasks.proofs.Firsts.{first_none, first_found, first_low}
 use Rattle.tasks.proofs.state.Tasks.first.Goals as goal
 use Rattle.tasks.proofs.state.Tasks.first.Goals.{In_ok-task}
@@ -13,12 +12,12 @@ use Rattle.tasks.proofs.state.Tasks.first.Goals.{In_ok-task}
 pub returns-in_err-task : goal.returns-in_err-task
 returns-in_err-task c =
     let a = c.args in
-    c.from_residual.ensures ∙ first_none c.requires a.by_priority (place a.side (suc a.object)) (sym (ap numbered c.in_err-task.was) ∙ c.foremost.ensures)
+    c.from_residual.ensures ∙ first_none c.requires a.by_priority (place a.side (suc a.object)) c.in_err-task.ensures
 
 low : (c : In_ok-task) → c.in_ok-task.task < max_tasks
 low c =
     let a = c.args in
-    let l = first_low c.requires a.by_priority (place a.side (suc a.object)) c.in_ok-task.task (sym (ap numbered c.in_ok-task.was) ∙ c.foremost.ensures) in
+    let l = first_low c.requires a.by_priority (place a.side (suc a.object)) c.in_ok-task.task c.in_ok-task.ensures in
     let m = c.requires.fit.tasks in
     omega arith
 
@@ -32,4 +31,4 @@ pub returns : goal.returns
 returns c =
     let a = c.args in
     ap (λ (w : ℕ). Some (record { task = c.in_ok-task.task; word = w })) c.word-word.ensures
-    ∙ first_found c.requires a.by_priority (place a.side (suc a.object)) c.in_ok-task.task (sym (ap numbered c.in_ok-task.was) ∙ c.foremost.ensures)
+    ∙ first_found c.requires a.by_priority (place a.side (suc a.object)) c.in_ok-task.task c.in_ok-task.ensures

@@ -5,8 +5,8 @@ use Rattle.model.specs.State.{place}
 use Rattle.tasks.proofs.Firsts.{queue_at, first_task_lem, nth_low}
 use Rattle.tasks.proofs.state.Tasks.first_number.Goals as goal
 
-pub number_of-requires : goal.number_of-requires
-number_of-requires c =
+pub task_number-requires : goal.task_number-requires
+task_number-requires c =
     let a = c.args in
     let p = place a.side (suc a.object) in
     let l = nth_low c.requires a.by_priority p 0 in

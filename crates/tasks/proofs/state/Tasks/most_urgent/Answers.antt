@@ -3,7 +3,7 @@ use Prim.Native.Nat.{ℕ, suc, ◌+◌}
 use mathlib.Core.List.{List}
 use Rattle.std.specs.Prelude.{Some}
 use Rattle.tasks.specs.Leads.{lead, lead_of, leader}
-use Rattle.tasks.specs.Ends.{numbered}
+use Rattle.tasks.specs.Ends.{task_number}
 use native.Mathlib.Omega.{arith}
 use mathlib.Core.Path.{◌≡◌, sym, ap, ◌∙◌}
 use lib.ListN.{length, get_or}
@@ -40,7 +40,7 @@ loop-task-preserved c =
           scan_pass (rank_in es) (n 0) (n i) (n (i + 1)) c.loop-task.lead c.if-is_at.lead v (pass es p o i c.loop-task-test.true (cc)) w.lead-is
     ]
 
-task_of_lead : (c : After-map) → numbered c.map.result ≡ leader c.loop-task.lead
+task_of_lead : (c : After-map) → task_number c.map.result ≡ leader c.loop-task.lead
 task_of_lead c = grind (arith, common_steps)
 
 pub returns : goal.returns

@@ -6,15 +6,15 @@ use Rattle.model.specs.State.{place}
 use Rattle.tasks.proofs.Firsts.{nth_low}
 use Rattle.tasks.proofs.state.Tasks.waiter.Goals as goal
 
-pub number_of-requires : goal.number_of-requires
-number_of-requires c =
+pub task_number-requires : goal.task_number-requires
+task_number-requires c =
     let a = c.args in
     let l = nth_low c.requires true (place a.side (suc a.object)) a.k in
     let m = c.requires.fit.tasks in
     omega (arith, c.ranked.ensures)
 
-pub number_of-requires-2 : goal.number_of-requires-2
-number_of-requires-2 c =
+pub task_number-requires-2 : goal.task_number-requires-2
+task_number-requires-2 c =
     let a = c.args in
     let l = nth_low c.requires false (place a.side (suc a.object)) a.k in
     let m = c.requires.fit.tasks in
