@@ -20,9 +20,6 @@ use Rattle.kernel.specs.Valid.{Valid}
 use Rattle.kernel.specs.Promises.{Does}
 use Rattle.batch.specs.declared.numbers.Numbers.{Numbers}
 use Rattle.batch.specs.declared.answer.Made.{Made}
-use Rattle.batch.specs.declared.asked.Asked.{Asked}
-use Rattle.batch.specs.declared.asked.Asked.TheVariants as Asks
-use Rattle.batch.specs.contracts.asked.Asked.{the_type as asked_type}
 use Rattle.batch.specs.Encoding.{meanings, nth, item_of}
 use Rattle.batch.specs.Made.{answer_made, Performs}
 
@@ -61,10 +58,6 @@ beyond (x ∷ l) (suc (suc n)) h = beyond l (suc n) (omega arith)
 
 pub meant_nothing : (q : Numbers) → Unlike (length (meanings q)) q.function → none ≡ item_of q
 meant_nothing q u = ⊎_elim (λ e. ap (nth (meanings q)) (sym e)) (λ l. sym (beyond (meanings q) q.function l)) (outside (length (meanings q)) q.function u)
-
-pub is_nothing : (x : Asked) → OneOf (0 ∷ []) (tag_of asked_type x) → x ≡ Asks.Nothing
-is_nothing Asks.Nothing t = refl
-is_nothing (Asks.Call q) t = absurd (omega arith)
 
 -- ---- an answer's words, and the state after it
 pub does : {s : State} {c : Call} {a : Answer} {r : Made} → Does s c a → r ≡ answer_made a → Performs s (some c) r

@@ -8,8 +8,8 @@ use Rattle.kernel.specs.declared.state.Answer.{Answer}
 use Rattle.kernel.specs.View.{view_of}
 use Rattle.kernel.specs.Valid.{Valid}
 use Rattle.batch.specs.declared.answer.Made.{Made}
-use Rattle.batch.specs.declared.asked.Asked.{Asked}
-use Rattle.batch.specs.declared.asked.Asked.TheVariants as Asks
+use Rattle.std.specs.Prelude.{Option as Optional, Some, None}
+use Rattle.model.specs.declared.Request.{Request}
 use Rattle.batch.specs.Encoding.{outcome_word, encoded, no_call}
 
 -- the words of an answer that an operation gives
@@ -23,9 +23,9 @@ answer_made a =
     }
 
 -- what a task is to make of what its numbers ask for
-abbrev pub meaning_of : ℤ → Asked → Option Call
-meaning_of t Asks.Nothing = none
-meaning_of t (Asks.Call q) = some (call t (op_of q))
+abbrev pub meaning_of : ℤ → Optional Request → Option Call
+meaning_of t None = none
+meaning_of t (Some q) = some (call t (op_of q))
 
 -- what an item answers in a state of the model, and the state after it
 abbrev pub answer_to : Model.State → Option Call → List ℕ

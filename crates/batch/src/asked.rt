@@ -2,7 +2,6 @@
 ghost use Rattle.std.specs.Prelude.{◌≡◌};
 ghost use Rattle.batch.specs.Encoding.{item_of};
 ghost use Rattle.model.specs.declared.Request.TheVariants.{Semaphore, Queue, Extended};
-ghost use Rattle.batch.specs.declared.asked.Asked.TheVariants.{Call};
 ghost use Rattle.batch.specs.Made.{meaning_of};
 
 use crate::numbers::Numbers;
@@ -40,33 +39,26 @@ pub const CAL_SVC: u32 = 13;
 
 pub const RET_SVC: u32 = 14;
 
-#[derive(Clone, Copy)]
-pub enum Asked {
-    // No call: another function.
-    Nothing,
-    Call(Request),
-}
-
-fn of_semaphore(object: i32, asked: SemaphoreRequest) -> Asked
-    ensures { result ≡ Call (Semaphore object asked) }
+fn of_semaphore(object: i32, asked: SemaphoreRequest) -> Option<Request>
+    ensures { result ≡ Some (Semaphore object asked) }
 {
-    Asked::Call(Request::Semaphore(object, asked))
+    Some(Request::Semaphore(object, asked))
 }
 
-fn of_queue(object: i32, asked: QueueRequest) -> Asked
-    ensures { result ≡ Call (Queue object asked) }
+fn of_queue(object: i32, asked: QueueRequest) -> Option<Request>
+    ensures { result ≡ Some (Queue object asked) }
 {
-    Asked::Call(Request::Queue(object, asked))
+    Some(Request::Queue(object, asked))
 }
 
-fn of_level(asked: ExtendedCall) -> Asked
-    ensures { result ≡ Call (Extended asked) }
+fn of_level(asked: ExtendedCall) -> Option<Request>
+    ensures { result ≡ Some (Extended asked) }
 {
-    Asked::Call(Request::Extended(asked))
+    Some(Request::Extended(asked))
 }
 
-// One line for each function.
-pub(crate) fn request_of(numbers: Numbers) -> Asked
+// One line for each function; another number is no call.
+pub(crate) fn request_of(numbers: Numbers) -> Option<Request>
     ensures { meaning_of numbers.caller result ≡ item_of numbers }
 {
     let object = numbers.object;
@@ -106,6 +98,6 @@ pub(crate) fn request_of(numbers: Numbers) -> Asked
         FSND_DTQ => of_queue(object, QueueRequest::Own(QueueCall::ForcedSend(word))),
         CAL_SVC => of_level(ExtendedCall::Enter),
         RET_SVC => of_level(ExtendedCall::Leave),
-        _ => Asked::Nothing,
+        _ => None,
     }
 }

@@ -5,7 +5,7 @@ ghost use Rattle.batch.specs.Encoding.{item_of};
 ghost use Rattle.batch.specs.Made.{Performs};
 
 use crate::answer::{Made, answered, no_call};
-use crate::asked::{Asked, request_of};
+use crate::asked::request_of;
 use crate::numbers::Numbers;
 use kernel::state::State;
 
@@ -24,9 +24,8 @@ pub(crate) fn perform(state: State, numbers: Numbers) -> Made
     requires { Valid state }
     ensures { Performs state (item_of numbers) result }
 {
-    let caller = numbers.caller;
-    match request_of(numbers) {
-        Asked::Nothing => refused(state),
-        Asked::Call(request) => answered(state.call(caller, request)),
-    }
+    let Some(request) = request_of(numbers) else {
+        return refused(state);
+    };
+    answered(state.call(numbers.caller, request))
 }

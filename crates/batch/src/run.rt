@@ -55,11 +55,7 @@ pub(crate) fn write(answers: &mut [u32], at: usize, words: [u32; ANSWER_WORDS])
     requires { at + answer_words ≤ length answers.old }
     ensures { answers.new ≡ paste answers.old at words answer_words }
 {
-    let mut j: usize = 0;
-    while j < ANSWER_WORDS {
-        answers[at + j] = words[j];
-        j += 1;
-    }
+    answers[at..at + ANSWER_WORDS].copy_from_slice(&words);
 }
 
 // All calls that a slice holds, as far as their answers have room in another.
@@ -68,13 +64,10 @@ pub fn run(mut state: State, calls: &[u32], answers: &mut [u32]) -> Ran
     ensures { Runs state calls.now answers.old answers.new result }
 {
     let made = count(calls.len(), answers.len());
-    let mut k: usize = 0;
-    while k < made {
+    for k in 0..made {
         let next = step(state, calls, k);
         state = next.state;
-        let words = next.words;
-        write(answers, k * ANSWER_WORDS, words);
-        k += 1;
+        write(answers, k * ANSWER_WORDS, next.words);
     }
     Ran {
         answered: made,
