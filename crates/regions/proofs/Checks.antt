@@ -2,27 +2,22 @@
 use Prim.Native.Nat.{ℕ, zero, suc, ◌+◌, ◌<◌}
 use native.Mathlib.Omega.{arith}
 use mathlib.Core.Path.{◌≡◌, refl, sym, ap, ◌∙◌, subst}
-use mathlib.Core.Bool.{Bool, true, false, not, ◌&&◌}
+use mathlib.Core.Bool.{Bool, not}
 use mathlib.Core.List.{List, [], ◌∷◌}
 use mathlib.Core.Option.{none}
-use lib.Dec.{leb}
 use lib.IntN.{ℤ}
 use Rattle.std.specs.Prelude.{Result}
 use Rattle.itron.specs.declared.error.Error.{Error as Err}
 use lib.ListN.{length, get_or, drop, get_or-eq_default}
 use lib.Seq.{drop-cons}
-use Rattle.itron.specs.declared.error.Error.TheVariants.{Rsatr as e_rsatr, Par as e_par, Obj as e_obj, Macv as e_macv}
-use Rattle.itron.specs.Limits.{address_end}
+use Rattle.itron.specs.declared.error.Error.TheVariants.{Par as e_par, Obj as e_obj, Macv as e_macv}
 use Rattle.model.specs.Lists.{at}
 use Rattle.model.specs.State.{Region, no_region}
 use Rattle.model.specs.Answers.{refuse_if}
 use Rattle.model.specs.Checks.{passed}
-use Rattle.model.specs.Regions.{end, is_area, last_end, in_chain, wishes_ok, allows, area_ok, judge_in}
+use Rattle.model.specs.Regions.{end, last_end, in_chain, allows, judge_in}
 
 -- ---- ladders of checks, by the values of their tests
-abbrev pub enters : Bool → Bool → Bool → Result Unit Err
-enters attribute numbers place = passed (refuse_if (not attribute) e_rsatr (refuse_if (not numbers) e_par (refuse_if (not place) e_obj none)))
-
 abbrev pub judges : Bool → Bool → Result Unit Err
 judges inside allowed = passed (refuse_if (not inside) e_obj (refuse_if (not allowed) e_macv none))
 
@@ -37,16 +32,6 @@ judged_at rs i l d base size w =
     (λ (m : List Region). judges (in_chain m (base + size)) (allows (get_or rs i no_region) d w) ≡ passed (judge_in m d base size w))
     (sym (drop-cons rs i no_region l))
     refl
-
--- ---- the wishes may be tested before the area
-swap : (x y z : Bool) → y && (x && z) ≡ x && y && z
-swap true true z = refl
-swap true false z = refl
-swap false true z = refl
-swap false false z = refl
-
-pub request_ok : (base size w : ℕ) → wishes_ok w && is_area base size ≡ area_ok base size w
-request_ok base size w = swap (leb 1 size) (wishes_ok w) (leb (base + size) address_end)
 
 -- ---- the region entered last
 pub end_none : (rs : List Region) → length rs ≡ 0 → 0 ≡ last_end rs

@@ -1,15 +1,14 @@
 -- Laws of `covered_by` and `lookup`: a search is decided by one region where no other can hold the address, and it finds the region from which the model's `from_holder` goes on. Assumes nothing.
-use Prim.Native.Nat.{ℕ, zero, suc, ◌+◌, ◌-◌, ◌≤◌, ◌<◌}
+use Prim.Native.Nat.{ℕ, zero, suc, ◌+◌, ◌≤◌, ◌<◌}
 use native.Mathlib.Omega.{arith}
 use native.Mathlib.Nat.{eq-or-lt_of_le}
 use mathlib.Core.Path.{◌≡◌, refl, sym, ap, ◌∙◌}
 use mathlib.Core.Bool.{Bool, true, false, cond}
 use mathlib.Core.Logic.{⊎_elim}
 use mathlib.Core.List.{List, ◌∷◌}
-use lib.Dec.{ltb}
 use lib.ListN.{length, get_or, drop, drop_of_length-le}
 use lib.Seq.{drop-cons}
-use borrow.Author.Tests.{ltb-true, ltb-false, le-leb, lt-leb, le-ltb, lt-ltb}
+use borrow.Author.Tests.{le-leb, lt-leb, le-ltb}
 use Rattle.model.specs.State.{Region, no_region}
 use Rattle.model.specs.Regions.{holds, from_holder}
 use Rattle.std.specs.Prelude.{Option, Some, None, Ok, Err as Refused, ok_or}
@@ -19,19 +18,12 @@ use Rattle.regions.specs.Held.{Held}
 use Rattle.regions.specs.Search.{covered_by, lookup, found_from}
 use Rattle.regions.proofs.Cells.{count_of, base_at, size_at}
 
--- ---- an area that starts past an address, or ends before it, does not hold it; one that starts no later does exactly if the distance is less than its size
+-- ---- an area that starts past an address, or ends before it, does not hold it
 pub starts_past : (start size a : ℕ) → a < start → covered_by start size a ≡ false
 starts_past start size a h = simp (lt-leb start a h)
 
 pub ends_before : (start size a : ℕ) → start + size ≤ a → covered_by start size a ≡ false
 ends_before start size a h = simp (le-leb start a (omega arith), le-ltb a (start + size) h)
-
-pub by_distance : (start size a : ℕ) → start ≤ a → ltb (a - start) size ≡ covered_by start size a
-by_distance start size a h = go (ltb (a - start) size) refl
-  where
-    go : (b : Bool) → ltb (a - start) size ≡ b → b ≡ covered_by start size a
-    go true e = let l = ltb-true (a - start) size e in sym (simp (le-leb start a h, lt-ltb a (start + size) (omega arith)))
-    go false e = let l = ltb-false (a - start) size e in sym (simp (le-leb start a h, le-ltb a (start + size) (omega arith)))
 
 module _ (bs ss : List ℕ) (a : ℕ) where
   abbrev test : ℕ → Bool

@@ -2,11 +2,10 @@
 use Prim.Native.Nat.{ℕ, ◌<◌}
 use mathlib.Core.Path.{sym, ◌∙◌, ap, subst}
 use mathlib.Core.Bool.{Bool, cond}
-use borrow.Author.Rules.{rules}
 use native.Mathlib.Omega.{arith}
 use Rattle.std.specs.Prelude.{Some, None}
 use Rattle.regions.proofs.Searches.{no_region_lem}
-use Rattle.regions.proofs.Halving.{Left, keep_all, half_of_these, half_of_all, rounds, begin, some_left, twice_left, halve, decides}
+use Rattle.regions.proofs.Halving.{Left, keep_all, half_of_these, half_of_all, rounds, some_left, twice_left, halve, decides}
 use Rattle.regions.proofs.search.find.Goals as goal
 use Rattle.regions.proofs.search.find.Goals.{then-half-count, else-half-count+then-half-count-2, else-half-count+else-half-count-2}
 
@@ -14,30 +13,6 @@ pub returns-then-count-eq0 : goal.returns-then-count-eq0
 returns-then-count-eq0 c =
     let a = c.args in
     sym (no_region_lem a.bases.now a.sizes.now a.address a.count 0 c.if-count-eq0.true)
-
-pub loop-init : goal.loop-init
-loop-init c =
-    begin c.requires.2.few (omega (arith, c.if-count-eq0.false))
-
-pub overflow_mul-half : goal.overflow_mul-half
-overflow_mul-half c = let f = c.loop.invariant.few in omega arith
-
-pub overflow_add-first : goal.overflow_add-first
-overflow_add-first c =
-    let f = c.loop.invariant.few in let l = c.loop.invariant.left.inside in search rules
-
-pub half_from-first-requires : goal.half_from-first-requires
-half_from-first-requires c =
-    let v = twice_left c.loop.invariant (omega (arith, c.loop-test.true)) in
-    let w = v.within (omega arith) in
-    let n = c.requires.0 in
-    omega arith
-
-pub half_from-first-requires-then-half-count-2 : goal.half_from-first-requires-then-half-count-2
-half_from-first-requires-then-half-count-2 c =
-    let o = some_left c.loop.invariant (omega (arith, c.loop-test.true)) in
-    let n = c.requires.0 in
-    omega arith
 
 pub loop-preserved : goal.loop-preserved
 loop-preserved c =
@@ -57,21 +32,6 @@ loop-preserved c =
       | else-half-count+else-half-count-2 w ↦
           subst kept (sym w.first-is) (keep_all v o w.if-half-count-2.false)
     ])
-
-pub offset_bounds-bases-first : goal.offset_bounds-bases-first
-offset_bounds-bases-first c = let l = c.loop.invariant.left.inside in search rules
-
-pub bounds-bases-first : goal.bounds-bases-first
-bounds-bases-first c = let l = c.loop.invariant.left.inside in search rules
-
-pub offset_bounds-sizes-first : goal.offset_bounds-sizes-first
-offset_bounds-sizes-first c = let l = c.loop.invariant.left.inside in search rules
-
-pub bounds-sizes-first : goal.bounds-sizes-first
-bounds-sizes-first c = let l = c.loop.invariant.left.inside in search rules
-
-pub covers-requires : goal.covers-requires
-covers-requires c = tt
 
 pub returns-then-covers : goal.returns-then-covers
 returns-then-covers c =
