@@ -1,11 +1,12 @@
 -- Handing out the bytes: its checks, one after the other, as the code makes them. Assumes nothing.
-use mathlib.Core.Path.{◌≡◌, sym, ap, ◌∙◌}
+use mathlib.Core.Path.{◌≡◌, refl, sym, ap, ◌∙◌}
 use mathlib.Core.Bool.{Bool, true, false, not}
-use mathlib.Core.List.{[]}
-use mathlib.Core.Option.{Option, none}
+use mathlib.Core.List.{List, []}
+use mathlib.Core.Option.{Option, none, some}
 use Prim.Native.Nat.{ℕ}
 use lib.IntN.{ℤ}
-use Rattle.std.specs.Prelude.{Result, Ok, Err as Refused, is_err}
+use Rattle.std.specs.Prelude.{Option as Optional, unwrap_or, Result, Ok, Err as Refused, is_err}
+use Rattle.images.specs.Parts.{part_of_found}
 use Rattle.itron.specs.declared.error.Error.{Error as Err}
 use Rattle.itron.specs.declared.error.Error.TheVariants.{Ctx as e_ctx, Par as e_par, Noexs as e_noexs}
 use Rattle.model.specs.Answers.{refuse_if}
@@ -15,6 +16,22 @@ use Rattle.model.specs.Verdict.{verdict}
 use Rattle.model.specs.Images.{Image, images_ok, holder, is_held, read_alone, once_allowed, hand_out, part_of, unless_refused, handed_bytes}
 use Rattle.kernel.specs.declared.state.State.{State}
 use Rattle.kernel.specs.View.{view_of}
+
+-- ---- what is found of two images, f and r, as they are lent
+module _ {f r flash ram : Image} (e : f ≡ flash) (g : r ≡ ram) where
+  pub lendable_by : {b : Bool} → b ≡ images_ok f r → images_ok flash ram ≡ b
+  lendable_by h = sym (h ∙ (λ i. images_ok (e i) (g i)))
+
+  module _ (base size : ℕ) where
+    pub held_by : {b : Bool} → b ≡ is_held (holder f r base size) → is_held (holder flash ram base size) ≡ b
+    held_by h = sym (h ∙ (λ i. is_held (holder (e i) (g i) base size)))
+
+    pub part_by : {o : Optional (List ℕ)} → o ≡ part_of_found (holder f r base size) base size → unwrap_or o [] ≡ part_of (holder flash ram base size) base size
+    part_by h = ap (λ (o : Optional (List ℕ)). unwrap_or o []) (h ∙ (λ i. part_of_found (holder (e i) (g i) base size) base size)) ∙ found (holder flash ram base size)
+      where
+        found : (h : Option Image) → unwrap_or (part_of_found h base size) [] ≡ part_of h base size
+        found none = refl
+        found (some x) = refl
 
 module _ (s : State) (d : ℤ) (base size : ℕ) (flash ram : Image) where
   pub out_ctx : s.closed ≡ false → Refused e_ctx ≡ passed (hand_out (view_of s) d base size flash ram)

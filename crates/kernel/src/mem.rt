@@ -13,7 +13,7 @@ ghost use Rattle.kernel.specs.Valid.{Valid};
 ghost use Rattle.kernel.specs.Promises.{Enters};
 
 use crate::state::{Entered, State};
-use images::pair::{Bases, are_images, is_held, part};
+use images::pair::{Bases, Images};
 use itron::error::{Error, code_of};
 use itron::limit::MAX_REGIONS;
 use regions::entry::RegionEntry;
@@ -82,11 +82,12 @@ impl State {
         if !self.closed {
             return Err(Error::Ctx);
         }
-        if !are_images(bases, flash, ram) {
+        let images = Images::new(bases, flash, ram);
+        if !images.are_lendable() {
             return Err(Error::Par);
         }
         self.verdict(domain, base, size, READ)?;
-        if !is_held(bases, flash, ram, base, size) {
+        if !images.is_held(base, size) {
             return Err(Error::Noexs);
         }
         Ok(())
@@ -125,7 +126,10 @@ impl State {
         if allowed.is_err() {
             return &flash[0..0];
         }
-        part(bases, flash, ram, base, size)
+        let Some(part) = Images::new(bases, flash, ram).part(base, size) else {
+            return &flash[0..0];
+        };
+        part
     }
 
     pub fn region(self, number: usize) -> RegionInfo
