@@ -1,7 +1,6 @@
 // What a line of `replay`'s input asks. Bytes in, a command and its echo out: no input or output, and no kernel.
 #![tactic(auto)]
 
-pub mod call;
 pub mod dtq;
 pub mod entry;
 pub mod flaw;
@@ -12,7 +11,6 @@ pub mod numbers;
 pub mod parse;
 pub mod request;
 pub mod sem;
-pub mod shape;
 pub mod svc;
 pub mod text;
 pub mod verb;

@@ -10,7 +10,7 @@ use crate::text::Text;
 // The echo is the first `count` bytes.
 #[derive(Clone, Copy)]
 pub struct Asked {
-    pub command: Command,
+    pub command: Option<Result<Command, Flaw>>,
     pub echo: Text,
 }
 
@@ -20,7 +20,7 @@ pub fn requested(line: Line, ended: bool) -> Asked
 {
     if SIZE <= line.count {
         return Asked {
-            command: Command::Bad(Flaw::LongLine),
+            command: Some(Err(Flaw::LongLine)),
             echo: Text::long(),
         };
     }
