@@ -1,5 +1,5 @@
 -- One step of reading digits, and that a value once too large stays so. Assumes nothing.
-use Rattle.std.proofs.Common.{ℕ, zero, suc, ◌+◌, ◌-◌, ◌*◌, ◌≤◌, ◌<◌, ◌≡◌, refl, ap, sym, ◌∙◌, Bool, true, false, List, [], ◌∷◌, Option, Some, None, Result, Ok, Err, length, take, drop, get_or, to_z, of_z, nat_lt}
+use Rattle.std.proofs.Common.{ℕ, zero, suc, ◌+◌, ◌-◌, ◌*◌, ◌≤◌, ◌<◌, ◌≡◌, refl, ap, sym, ◌∙◌, Bool, true, false, List, [], ◌∷◌, Option, Some, None, Result, Ok, Err, length, take, drop, get_or, to_z, of_z}
 use Rattle.std.specs.Prelude.{cond, ◌&&◌, ℤ, pos, negsuc, eqb, ltb}
 use Rattle.std.specs.Char.{digit_value}
 use Rattle.std.specs.Int.{FitsUnsignedBits}
@@ -14,7 +14,7 @@ use native.Mathlib.Omega.{arith}
 use mir.Syntax.{w32, w64}
 use mir.Val.{SFits}
 use lib.ListN.{drop_of_length-le}
-use borrow.Author.Tests.{lt-ltb, le-ltb, ltb-true, ltb-false, eqb-true, eq-eqb, ne_eqb}
+use borrow.Author.Tests.{lt-ltb, le-ltb, ltb-true, ltb-false}
 use Rattle.command.specs.Numbers.{digit_of, value_from, fitted, more, are_digits, too_large, magnitude_of, plain_end, negated, signed_end, signed_from, unsigned_from, number_of, plain_of, minus_of}
 use Rattle.command.specs.declared.number.NumberError.{NumberError}
 use Rattle.command.specs.declared.number.NumberError.TheVariants.{NoNumber, OutOfRange}
@@ -57,6 +57,7 @@ reading_goes l base (Some v) i h d =
   where
     w : ℕ
     w = v * base + digit_of (get_or l i 0)
+
     go : (t : Bool) → ltb w plain_end ≡ t → fitted (value_from base w (drop (i + 1) l)) ≡ reading base (cond t (Some w) None) (drop (i + 1) l)
     go true e = refl
     go false e = too_large_lem base w (drop (i + 1) l) (ltb-false _ _ e)
@@ -233,7 +234,6 @@ minus_is zero = refl
 minus_is (suc k) =
     let e : suc k - 1 ≡ k = omega arith in
     ap (λ (t : Bool). cond t (negsuc (suc k - 1)) (pos (0 - suc k))) (lt-ltb 0 (suc k) (omega arith)) ∙ ap negsuc e
-
 
 pub plain_value : (v : ℕ) (z : ℤ) → z ≡ pos v → v < plain_end → to_z w64 (of_z w64 z) ≡ pos v
 plain_value v z e h = rw e (to_z-of_z w64 (pos v) (small_fits v h))

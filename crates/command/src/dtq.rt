@@ -8,7 +8,7 @@ use model::dtq::{QueueCall, QueueRequest};
 use model::{Patience, Request};
 
 // The command that a word of this kind names, with the line's numbers; None for any other word.
-pub fn named(word: &[u8], numbers: Numbers) -> Option<Result<Command, Flaw>> {
+pub(crate) fn named(word: &[u8], numbers: Numbers) -> Option<Result<Command, Flaw>> {
     let command = match word {
         b"dtq" => entry(numbers),
         b"psnd_dtq" => send(numbers, |word| QueueCall::Send(Patience::Polling, word)),

@@ -12,5 +12,8 @@ pub enum Flaw {
         given: usize,
     },
     // The place of the first word that is wrong; the command's is 0.
-    Number { place: usize, error: NumberError },
+    Number {
+        place: usize,
+        error: NumberError,
+    },
 }

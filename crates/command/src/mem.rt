@@ -21,7 +21,7 @@ pub struct HandOut {
 }
 
 // The command that a word of this kind names, with the line's numbers; None for any other word.
-pub fn named(word: &[u8], numbers: Numbers) -> Option<Result<Command, Flaw>> {
+pub(crate) fn named(word: &[u8], numbers: Numbers) -> Option<Result<Command, Flaw>> {
     match word {
         b"mem" => Some(entry(numbers)),
         b"prb_mem" => Some(probe(numbers)),

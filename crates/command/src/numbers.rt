@@ -1,5 +1,5 @@
 // The numbers of a line, each read as its command takes it.
-ghost use Rattle.std.specs.Prelude.{◌≤◌};
+ghost use Rattle.std.specs.Prelude.{◌≤◌, IfOk};
 
 use crate::flaw::Flaw;
 use crate::number::{Number, NumberError, read_number};
@@ -7,16 +7,16 @@ use crate::word::{count, word};
 use access::vector::{Choice, Vector};
 
 // The patterns of a vector.
-pub const PATTERNS: usize = 4;
+pub(crate) const PATTERNS: usize = 4;
 
 // The line's text. A word's place says which word it is; the command's is 0, and its numbers' are 1 and on.
 #[derive(Clone, Copy)]
-pub struct Numbers<'a> {
+pub(crate) struct Numbers<'a> {
     text: &'a [u8],
 }
 
 impl<'a> Numbers<'a> {
-    pub fn of(text: &'a [u8]) -> Numbers<'a> {
+    pub(crate) fn of(text: &'a [u8]) -> Numbers<'a> {
         Numbers { text }
     }
 
@@ -25,7 +25,7 @@ impl<'a> Numbers<'a> {
     }
 
     // So many numbers are given: the fewest, or with all that may be left out the most.
-    pub fn counted(self, fewest: usize, most: usize) -> Result<(), Flaw> {
+    pub(crate) fn counted(self, fewest: usize, most: usize) -> Result<(), Flaw> {
         let given = self.given();
         if given == fewest || given == most {
             return Ok(());
@@ -38,14 +38,17 @@ impl<'a> Numbers<'a> {
     }
 
     // The number at this place, as the type that is wanted there.
-    pub fn number<T: TryFrom<Number, Error = NumberError>>(self, place: usize) -> Result<T, Flaw> {
+    pub(crate) fn number<T: TryFrom<Number, Error = NumberError>>(
+        self,
+        place: usize,
+    ) -> Result<T, Flaw> {
         read_number(word(self.text, place))
             .and_then(|number| T::try_from(number))
             .map_err(|error| Flaw::Number { place, error })
     }
 
     // A number that may be left out.
-    pub fn optional(self, place: usize) -> Result<Option<u32>, Flaw> {
+    pub(crate) fn optional(self, place: usize) -> Result<Option<u32>, Flaw> {
         if self.given() < place {
             return Ok(None);
         }
@@ -53,7 +56,9 @@ impl<'a> Numbers<'a> {
     }
 
     // A number that must be smaller than its type allows.
-    pub fn at_most(self, place: usize, most: u32) -> Result<u32, Flaw> {
+    pub(crate) fn at_most(self, place: usize, most: u32) -> Result<u32, Flaw>
+        ensures { IfOk result (λ number. number ≤ most) }
+    {
         let number = self.number(place)?;
         if number <= most {
             return Ok(number);
@@ -65,13 +70,13 @@ impl<'a> Numbers<'a> {
     }
 
     // A call on an object has so many numbers; the first two are the calling task's and the object's.
-    pub fn call(self, count: usize) -> Result<(i32, i32), Flaw> {
+    pub(crate) fn call(self, count: usize) -> Result<(i32, i32), Flaw> {
         self.counted(count, count)?;
         Ok((self.number(1)?, self.number(2)?))
     }
 
     // The vector of the four patterns from this place on.
-    pub fn vector(self, place: usize) -> Result<Vector, Flaw>
+    pub(crate) fn vector(self, place: usize) -> Result<Vector, Flaw>
         requires { place ≤ 8 }
     {
         Ok(Vector {
@@ -83,7 +88,7 @@ impl<'a> Numbers<'a> {
     }
 
     // An entry's vector, which may be left out.
-    pub fn choice(self, place: usize) -> Result<Choice, Flaw>
+    pub(crate) fn choice(self, place: usize) -> Result<Choice, Flaw>
         requires { place ≤ 8 }
     {
         if self.given() < place {

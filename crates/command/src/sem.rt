@@ -8,7 +8,7 @@ use model::{Patience, Request};
 use semaphore::entry::SemaphoreEntry;
 
 // The command that a word of this kind names, with the line's numbers; None for any other word.
-pub fn named(word: &[u8], numbers: Numbers) -> Option<Result<Command, Flaw>> {
+pub(crate) fn named(word: &[u8], numbers: Numbers) -> Option<Result<Command, Flaw>> {
     let command = match word {
         b"sem" => entry(numbers),
         b"sig_sem" => own(numbers, SemaphoreCall::Signal),

@@ -6,7 +6,7 @@ use model::Request;
 use model::svc::ExtendedCall;
 
 // The command that a word of this kind names, with the line's numbers; None for any other word.
-pub fn named(word: &[u8], numbers: Numbers) -> Option<Result<Command, Flaw>> {
+pub(crate) fn named(word: &[u8], numbers: Numbers) -> Option<Result<Command, Flaw>> {
     match word {
         b"cal_svc" => Some(asked(numbers, ExtendedCall::Enter)),
         b"ret_svc" => Some(asked(numbers, ExtendedCall::Leave)),

@@ -20,7 +20,7 @@ fn named(word: &[u8], numbers: Numbers) -> Option<Result<Command, Flaw>> {
 }
 
 // The command that a line's first word names, with the line's numbers.
-pub fn command_of(word: &[u8], numbers: Numbers) -> Result<Command, Flaw> {
+pub(crate) fn command_of(word: &[u8], numbers: Numbers) -> Result<Command, Flaw> {
     named(word, numbers)
         .or_else(|| sem::named(word, numbers))
         .or_else(|| dtq::named(word, numbers))

@@ -1,8 +1,7 @@
 -- One digit after another. Assumes nothing.
 use Rattle.std.proofs.Common.{◌∙◌, sym, ap, arith, ℕ, ◌≡◌, ◌+◌, length, drop, refl, Option, Err}
 use Rattle.std.proofs.lemmas.Result.{err_from_is_err_and}
-use Rattle.std.specs.Option.{IfSome}
-use Rattle.command.specs.Numbers.{more, plain_end}
+use Rattle.command.specs.Numbers.{more}
 use Rattle.command.proofs.Digits.{magnitude_empty, magnitude_some, reading, reading_goes, reading_stops, reading_ends, reading_is, digit_read, digit_refused, more_fits}
 use Rattle.command.proofs.number.read_digits.Goals as goal
 
@@ -22,9 +21,10 @@ loop-byte-preserved c =
     let i = c.loop-byte.byte-index in
     let v = c.loop-byte.value in
     let d = digit_read c.to_digit.result c.from.result _ a c.in_ok-digit.digit c.from.ensures c.requires.upper_bound c.to_digit.ensures.value c.in_ok-digit.ensures.value in
-    let e = ap (more a v) d.1 ∙ sym c.appended-value.ensures in
-    (c.loop-byte.invariant.0 ∙ reading_goes t a v i c.loop-byte-test.true d.0 ∙ ap (λ (o : Option ℕ). reading a o (drop (i + 1) t)) e,
-     rw c.appended-value.ensures (more_fits a c.in_ok-digit.digit v))
+    let e = ap (more a v) d.1 ∙ sym c.appended-value.ensures in (
+      c.loop-byte.invariant.0 ∙ reading_goes t a v i c.loop-byte-test.true d.0 ∙ ap (λ (o : Option ℕ). reading a o (drop (i + 1) t)) e,
+      rw c.appended-value.ensures (more_fits a c.in_ok-digit.digit v),
+    )
 
 pub returns-in_err-digit : goal.returns-in_err-digit
 returns-in_err-digit c =

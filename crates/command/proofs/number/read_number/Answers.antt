@@ -1,8 +1,7 @@
 -- By how the text begins. Assumes nothing.
-use Rattle.std.proofs.Common.{◌∙◌, sym, ap, rules, ℕ, ℤ, ◌<◌, Ok, Err, Result}
+use Rattle.std.proofs.Common.{◌∙◌, sym, ap, rules, ◌<◌, Err}
 use Rattle.std.proofs.lemmas.Result.{err_from_is_err_and}
 use Rattle.command.specs.Numbers.{plain_end, plain_of, minus_of}
-use Rattle.command.specs.declared.number.Number.{Number}
 use Rattle.command.proofs.Digits.{number_minus, number_hex, number_plain, plain_value, minus_value, numbered}
 use Rattle.command.proofs.number.read_number.Goals as goal
 

@@ -1,5 +1,5 @@
 -- The number as a narrower type, where it fits. Assumes nothing.
-use Rattle.std.proofs.Common.{rules, ◌≡◌, ◌∙◌, to_z, of_z}
+use Rattle.std.proofs.Common.{rules, ◌∙◌, to_z, of_z}
 use Rattle.std.proofs.lemmas.Int.{to_z-of_z}
 use mir.Syntax.{w64}
 use mir.Val.{SFits}
