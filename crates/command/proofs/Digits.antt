@@ -18,7 +18,7 @@ use borrow.Author.Tests.{lt-ltb, le-ltb, ltb-true, ltb-false}
 use Rattle.command.specs.Numbers.{digit_of, value_from, fitted, more, are_digits, too_large, magnitude_of, plain_end, negated, signed_end, signed_from, unsigned_from, number_of, plain_of, minus_of}
 use Rattle.command.specs.declared.number.NumberError.{NumberError}
 use Rattle.command.specs.declared.number.NumberError.TheVariants.{NoNumber, OutOfRange}
-use Rattle.command.proofs.Walks.{next}
+use Rattle.command.proofs.Walks.{next, and_true}
 
 -- v and one digit more are no less than v
 grows : (v base d : ℕ) → d < base → v ≤ v * base + d
@@ -189,18 +189,14 @@ unsigned_is z y e (Ok x) h =
 unsigned_is z y e (Err d) h = unsigned_large z (λ (f : FitsUnsignedBits 32 z). h (rw e f))
 
 -- a number by how it begins
-and_true : (t : Bool) → t ≡ (t && true)
-and_true true = refl
-and_true false = refl
-
 minus_test : (s : List ℕ) → eqb (get_or s 0 0) 45 ≡ pointwise eqb (take 1 s) (45 ∷ [])
 minus_test [] = refl
-minus_test (a ∷ l) = and_true (eqb a 45)
+minus_test (a ∷ l) = sym (and_true (eqb a 45))
 
 hex_test : (s : List ℕ) → (eqb (get_or s 0 0) 48 && eqb (get_or s 1 0) 120) ≡ pointwise eqb (take 2 s) (48 ∷ 120 ∷ [])
 hex_test [] = refl
 hex_test (a ∷ []) = refl
-hex_test (a ∷ b ∷ l) = ap (λ (t : Bool). eqb a 48 && t) (and_true (eqb b 120))
+hex_test (a ∷ b ∷ l) = ap (λ (t : Bool). eqb a 48 && t) (sym (and_true (eqb b 120)))
 
 module _ (s : List ℕ) where
   number_by : (a b : Bool) → pointwise eqb (take 1 s) (45 ∷ []) ≡ a → pointwise eqb (take 2 s) (48 ∷ 120 ∷ []) ≡ b →

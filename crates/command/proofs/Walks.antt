@@ -4,15 +4,14 @@ use mathlib.Core.Path.{◌≡◌, refl, sym, ap, ◌∙◌}
 use mathlib.Core.Bool.{Bool, true, false, cond, not, ◌&&◌}
 use mathlib.Core.List.{List, [], ◌∷◌, ◌++◌}
 use native.Mathlib.Numerals.{add-one}
-use native.Mathlib.Nat.{le_refl}
 use native.Mathlib.Omega.{arith}
 use lib.Dec.{eqb, ltb}
 use Rattle.std.proofs.Common.{Some, None}
 use Rattle.std.proofs.lemmas.Bool.{ltb-false}
 use Rattle.std.proofs.lemmas.List.{take_more_set}
 use Rattle.std.proofs.lemmas.List.Sums.{prefix_len-le-length}
-use lib.ListN.{length, take, drop, set, get_or, drop_of_length-le, length-drop}
-use lib.Seq.{drop-cons, drop-length, take_all, take-nil, length-take-le}
+use lib.ListN.{length, take, drop, set, get_or, drop_of_length-le}
+use lib.Seq.{drop-cons, length-take-le}
 use borrow.Author.Tests.{eq-eqb, ne_eqb, le-ltb, lt-ltb}
 use Rattle.std.specs.List.{position, position_or_len, count_by}
 use Rattle.std.specs.Option.{unwrap_or}
@@ -26,13 +25,6 @@ use Rattle.command.specs.Words.{space_at, word_at, spaces, word_count}
 -- the list from a place on begins with the byte there
 pub next : (l : List ℕ) (i : ℕ) → i < length l → drop i l ≡ get_or l i 0 ∷ drop (i + 1) l
 next l i h = rw add-one (drop-cons l i 0 h)
-
--- what is left from a place on, and from past the end
-pub whole_rest : (l : List ℕ) (i : ℕ) → take (length l - i) (drop i l) ≡ drop i l
-whole_rest l i = take_all (length l - i) (drop i l) (rw length-drop (le_refl (length l - i)))
-
-pub no_rest : (l : List ℕ) (n i : ℕ) → length l ≤ i → take n (drop (length l) l) ≡ drop i l
-no_rest l n i h = ap (take n) (drop-length l) ∙ take-nil n ∙ sym (drop_of_length-le l h)
 
 -- one byte more in the first n bytes of an array
 pub pushed_full : (b : List ℕ) (n x : ℕ) → length b ≡ line_size → line_size ≤ n → n ≤ line_size → take n b ≡ pushed (take n b) x
@@ -50,11 +42,11 @@ pushed_more b n x l h =
     let e : length (take n b) < line_size = omega (arith, h, length-take-le n b fits) in
     take_more_set b n x in_it ∙ sym (ap (λ (t : Bool). cond t (take n b ++ x ∷ []) (take n b)) (lt-ltb (length (take n b)) line_size e))
 
--- the CR at its end
-and_true : (t : Bool) → (t && true) ≡ t
+pub and_true : (t : Bool) → (t && true) ≡ t
 and_true true = refl
 and_true false = refl
 
+-- the CR at its end
 cr_test : (l : List ℕ) → pointwise eqb (drop (length l - 1) l) (13 ∷ []) ≡ eqb (get_or l (length l - 1) 0) 13
 cr_test [] = refl
 cr_test (b ∷ bs) =
@@ -113,6 +105,7 @@ module _ (b : List ℕ) (gap : Bool) (t : List ℕ) (i : ℕ) where
   unfolding text_from
   text_stops h = ap (text_from gap t) (drop_of_length-le b h)
 
+-- the library's words for the first space and for the spaces
 one_more : (n : ℕ) → suc n ≡ 1 + n
 one_more n = omega arith
 
@@ -141,17 +134,6 @@ pub words_empty : (l : List ℕ) → length l ≡ 0 → word_count l ≡ 0
 unfolding word_count
 words_empty [] h = refl
 words_empty (b ∷ bs) h = let z : 0 < length (b ∷ bs) = omega arith in omega arith
-
--- what stands behind the first word
-pub behind : (l : List ℕ) (e : ℕ) → e ≡ space_at l → take (length l - (e + 1)) (drop (e + 1) l) ≡ drop (suc (space_at l)) l
-behind l e h =
-    let n : e + 1 ≡ suc (space_at l) = omega arith in
-    whole_rest l (e + 1) ∙ ap (λ (m : ℕ). drop m l) n
-
-pub behind_last : (l : List ℕ) (e : ℕ) → e ≡ space_at l → length l ≤ e → [] ≡ drop (suc (space_at l)) l
-behind_last l e h k =
-    let n : length l ≤ suc (space_at l) = omega arith in
-    sym (drop_of_length-le l n)
 
 -- one word is passed
 pub word_next : (k i : ℕ) (l : List ℕ) → i < k → word_at (k - i) l ≡ word_at (k - (i + 1)) (drop (suc (space_at l)) l)

@@ -13,7 +13,7 @@ pub(crate) fn named(word: &[u8], numbers: Numbers) -> Option<Result<Command, Fla
         b"dtq" => entry(numbers),
         b"psnd_dtq" => send(numbers, |word| QueueCall::Send(Patience::Polling, word)),
         b"snd_dtq" => send(numbers, |word| QueueCall::Send(Patience::Forever, word)),
-        b"fsnd_dtq" => send(numbers, |word| QueueCall::ForcedSend(word)),
+        b"fsnd_dtq" => send(numbers, QueueCall::ForcedSend),
         b"prcv_dtq" => receive(numbers, Patience::Polling),
         b"rcv_dtq" => receive(numbers, Patience::Forever),
         b"ref_dtq" => asked(numbers, QueueRequest::Refer),

@@ -4,11 +4,11 @@ ghost use Rattle.command.specs.Texts.{is_blank, spaced as spaced_of, with as wit
 
 use crate::line::Line;
 
-const TAB: u8 = 9;
+const TAB: u8 = b'\t';
 
-pub(crate) const SPACE: u8 = 32;
+pub(crate) const SPACE: u8 = b' ';
 
-const HASH: u8 = 35;
+const HASH: u8 = b'#';
 
 fn is_blank(byte: u8) -> bool
     ensures { result ≡ is_blank byte }
@@ -53,7 +53,7 @@ pub fn text_of(line: &[u8]) -> Line
 }
 
 // What stands for a line that is too long.
-pub fn long() -> Line {
+pub(crate) fn long() -> Line {
     let mut text = Line::empty();
     for &byte in b"(long line)" {
         text = text.pushed(byte);
