@@ -1,111 +1,61 @@
 // The lines of data queues: the entry's and the calls'.
-ghost use Rattle.command.specs.Shapes.{Small};
-
 use crate::entry::Entry;
 use crate::flaw::Flaw;
-use crate::numbers::Numbers;
+use crate::numbers::{Numbers, PATTERNS};
 use crate::parse::Command;
-use crate::shape::{PATTERNS, Shape};
-use access::vector::Vector;
-use check::same;
 use dataqueue::entry::QueueEntry;
 use model::dtq::{QueueCall, QueueRequest};
 use model::{Patience, Request};
 
-// What an entry gives before its vector: attribute and capacity.
-pub const BEFORE_VECTOR: usize = 2;
-
-// A call as its word names it: the line's numbers are put in later.
-fn asked(request: QueueRequest) -> Command {
-    Command::Call(0, Request::Queue(0, request))
+// The command that a word of this kind names, with the line's numbers; None for any other word.
+pub(crate) fn named(word: &[u8], numbers: Numbers) -> Option<Result<Command, Flaw>> {
+    let command = match word {
+        b"dtq" => entry(numbers),
+        b"psnd_dtq" => send(numbers, |word| QueueCall::Send(Patience::Polling, word)),
+        b"snd_dtq" => send(numbers, |word| QueueCall::Send(Patience::Forever, word)),
+        b"fsnd_dtq" => send(numbers, QueueCall::ForcedSend),
+        b"prcv_dtq" => receive(numbers, Patience::Polling),
+        b"rcv_dtq" => receive(numbers, Patience::Forever),
+        b"ref_dtq" => asked(numbers, QueueRequest::Refer),
+        b"sac_dtq" => set_vector(numbers),
+        _ => return None,
+    };
+    Some(command)
 }
 
-// The polling calls differ from the waiting ones in their patience alone.
-fn send(patience: Patience) -> Command {
-    asked(QueueRequest::Own(QueueCall::Send(patience, 0)))
+// Domain, attribute and capacity, and the vector if that is given.
+fn entry(numbers: Numbers) -> Result<Command, Flaw> {
+    numbers.counted(3, 3 + PATTERNS)?;
+    let entry = QueueEntry {
+        domain: numbers.number(1)?,
+        attribute: numbers.number(2)?,
+        capacity: numbers.number(3)?,
+        vector: numbers.choice(4)?,
+    };
+    Ok(Command::Entry(Entry::Queue(entry)))
 }
 
-// As send, with no word.
-fn receive(patience: Patience) -> Command {
-    asked(QueueRequest::Own(QueueCall::Receive(patience)))
+// A call with no number of its own.
+fn asked(numbers: Numbers, request: QueueRequest) -> Result<Command, Flaw> {
+    let (task, queue) = numbers.call(2)?;
+    Ok(Command::Call(task, Request::Queue(queue, request)))
 }
 
-// The command that a word names, with zeros where the line's numbers will stand; Bad for no word of this kind.
-pub fn named(word: &[u8]) -> Command {
-    if same(word, b"dtq") {
-        return Command::Entry(Entry::Queue(entry(Numbers::none(), false)));
-    }
-    if same(word, b"psnd_dtq") {
-        return send(Patience::Polling);
-    }
-    if same(word, b"snd_dtq") {
-        return send(Patience::Forever);
-    }
-    if same(word, b"fsnd_dtq") {
-        return asked(QueueRequest::Own(QueueCall::ForcedSend(0)));
-    }
-    if same(word, b"prcv_dtq") {
-        return receive(Patience::Polling);
-    }
-    if same(word, b"rcv_dtq") {
-        return receive(Patience::Forever);
-    }
-    if same(word, b"ref_dtq") {
-        return asked(QueueRequest::Refer);
-    }
-    if same(word, b"sac_dtq") {
-        return asked(QueueRequest::SetVector(Vector::KERNEL));
-    }
-    Command::Bad(Flaw::UnknownCommand)
+fn receive(numbers: Numbers, patience: Patience) -> Result<Command, Flaw> {
+    asked(numbers, QueueRequest::Own(QueueCall::Receive(patience)))
 }
 
-// A send's word is the one number of a queue's own calls.
-fn call_shape(call: QueueCall) -> Shape
-    ensures { Small result }
+// The word to be sent stands behind the task's number and the queue's.
+fn send<F: FnOnce(u32) -> QueueCall>(numbers: Numbers, call: F) -> Result<Command, Flaw>
+    requires { F.IsAlwaysCallable call }
 {
-    match call {
-        QueueCall::Send(_, _) => Shape::call(1),
-        QueueCall::Receive(_) => Shape::call(0),
-        QueueCall::ForcedSend(_) => Shape::call(1),
-    }
+    let (task, queue) = numbers.call(3)?;
+    let request = QueueRequest::Own(call(numbers.number(3)?));
+    Ok(Command::Call(task, Request::Queue(queue, request)))
 }
 
-// The numbers that stand behind the task's and the queue's.
-pub fn shape_of(request: QueueRequest) -> Shape
-    ensures { Small result }
-{
-    match request {
-        QueueRequest::Own(call) => call_shape(call),
-        QueueRequest::Refer => Shape::call(0),
-        QueueRequest::SetVector(_) => Shape::call(PATTERNS),
-    }
-}
-
-// A send takes its word from the line.
-fn call_with(call: QueueCall, numbers: Numbers) -> QueueCall {
-    match call {
-        QueueCall::Send(patience, _) => QueueCall::Send(patience, numbers.plain(0)),
-        QueueCall::Receive(_) => call,
-        QueueCall::ForcedSend(_) => QueueCall::ForcedSend(numbers.plain(0)),
-    }
-}
-
-// The request with the line's numbers in it.
-pub fn with_numbers(request: QueueRequest, numbers: Numbers) -> QueueRequest {
-    match request {
-        QueueRequest::Own(call) => QueueRequest::Own(call_with(call, numbers)),
-        QueueRequest::Refer => request,
-        QueueRequest::SetVector(_) => QueueRequest::SetVector(numbers.vector(0)),
-    }
-}
-
-// The entry of a line's numbers; `given` says that a vector stands after them.
-pub fn entry(numbers: Numbers, given: bool) -> QueueEntry {
-    let vector = numbers.choice(given, BEFORE_VECTOR);
-    QueueEntry {
-        domain: numbers.first,
-        attribute: numbers.plain(0),
-        capacity: numbers.plain(1),
-        vector,
-    }
+fn set_vector(numbers: Numbers) -> Result<Command, Flaw> {
+    let (task, queue) = numbers.call(2 + PATTERNS)?;
+    let request = QueueRequest::SetVector(numbers.vector(3)?);
+    Ok(Command::Call(task, Request::Queue(queue, request)))
 }

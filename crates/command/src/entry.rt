@@ -1,9 +1,7 @@
 // A table's entry, whatever its kind.
-ghost use Rattle.command.specs.Shapes.{Small};
-
+use crate::flaw::Flaw;
 use crate::numbers::Numbers;
-use crate::shape::{PATTERNS, Shape};
-use crate::{dtq, mem, sem};
+use crate::parse::Command;
 use dataqueue::entry::QueueEntry;
 use regions::entry::RegionEntry;
 use semaphore::entry::SemaphoreEntry;
@@ -20,34 +18,10 @@ pub enum Entry {
     Region(RegionEntry),
 }
 
-// Each kind knows the numbers of its own entry; only a task's priority or a vector may be left out.
-pub fn shape_of(entry: Entry) -> Shape
-    ensures { Small result }
-{
-    match entry {
-        Entry::Task(_, _) => Shape::open(0, 1),
-        Entry::Semaphore(_) => Shape::open(sem::BEFORE_VECTOR, PATTERNS),
-        Entry::Queue(_) => Shape::open(dtq::BEFORE_VECTOR, PATTERNS),
-        Entry::Region(_) => Shape::open(mem::BEFORE_VECTOR, PATTERNS),
-    }
-}
-
-// A task's entry; its priority is 1 where none is given.
-fn task(numbers: Numbers, given: bool) -> Entry {
-    let priority = if given {
-        numbers.plain(0)
-    } else {
-        DEFAULT_PRIORITY
-    };
-    Entry::Task(numbers.first, priority)
-}
-
-// The entry of its kind that the line's numbers make; `given` says that what may be left out is there.
-pub fn with_numbers(entry: Entry, numbers: Numbers, given: bool) -> Entry {
-    match entry {
-        Entry::Task(_, _) => task(numbers, given),
-        Entry::Semaphore(_) => Entry::Semaphore(sem::entry(numbers, given)),
-        Entry::Queue(_) => Entry::Queue(dtq::entry(numbers, given)),
-        Entry::Region(_) => Entry::Region(mem::entry(numbers, given)),
-    }
+// A task's entry: its domain, and its priority if that is given.
+pub(crate) fn task(numbers: Numbers) -> Result<Command, Flaw> {
+    numbers.counted(1, 2)?;
+    let domain = numbers.number(1)?;
+    let priority = numbers.optional(2)?.unwrap_or(DEFAULT_PRIORITY);
+    Ok(Command::Entry(Entry::Task(domain, priority)))
 }

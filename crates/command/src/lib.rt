@@ -1,19 +1,17 @@
 // What a line of `replay`'s input asks. Bytes in, a command and its echo out: no input or output, and no kernel.
 #![tactic(auto)]
 
-pub mod call;
-pub mod dtq;
+mod dtq;
 pub mod entry;
 pub mod flaw;
 pub mod line;
 pub mod mem;
 pub mod number;
-pub mod numbers;
+mod numbers;
 pub mod parse;
 pub mod request;
-pub mod sem;
-pub mod shape;
-pub mod svc;
+mod sem;
+mod svc;
 pub mod text;
-pub mod verb;
+mod verb;
 pub mod word;

@@ -1,39 +1,59 @@
-// A line of input while its bytes come in.
-ghost use Rattle.std.specs.Prelude.{◌≡◌, ◌≤◌, drop};
-ghost use Rattle.command.specs.Lines.{line_size, pushed as pushed_to, gathered_of, without_cr};
+// A line of input while its bytes come in, and a line's text.
+ghost use Rattle.std.specs.Prelude.{◌≡◌, ◌≤◌, [], take, drop, length, eqb};
+ghost use Rattle.command.specs.Lines.{line_size, pushed, gathered_of, without_cr};
 
 // One more than the longest line that is read: a full array is a line that is too long.
 pub const SIZE: usize = 256;
 
-const LF: u8 = 10;
+const LF: u8 = b'\n';
 
-const CR: u8 = 13;
-
+// Some bytes, in fixed memory.
 #[derive(Clone, Copy)]
 pub struct Line {
-    pub bytes: [u8; SIZE],
-    pub count: usize,
+    bytes: [u8; SIZE],
+    count: usize,
+    pub ghost in_range: { count ≤ line_size },
 }
 
-// The line so far, the place after the last byte taken, and whether an LF ended the line there.
+// The line so far, and the place behind the LF that ended it; None where the block ended first.
 #[derive(Clone, Copy)]
 pub struct Gathered {
     pub line: Line,
-    pub next: usize,
-    pub ended: bool,
+    pub next: Option<usize>,
 }
 
 impl Line {
-    pub fn empty() -> Line {
+    pub fn empty() -> Line
+        ensures { take result.count result.bytes ≡ [] }
+    {
         Line {
             bytes: [0; SIZE],
             count: 0,
         }
     }
 
+    pub fn as_slice(&self) -> &[u8]
+        ensures { result.now ≡ take self.now.count self.now.bytes }
+    {
+        &self.bytes[..self.count]
+    }
+
+    pub fn is_empty(self) -> bool
+        ensures { result ≡ eqb (length (take self.count self.bytes)) 0 }
+    {
+        self.count == 0
+    }
+
+    // Whether the line is too long.
+    pub fn is_full(self) -> bool
+        ensures { result ≡ eqb (length (take self.count self.bytes)) line_size }
+    {
+        self.count == SIZE
+    }
+
     // The line with one byte more; what does not fit is passed over.
     pub fn pushed(mut self, byte: u8) -> Line
-        ensures { result ≡ pushed_to self byte }
+        ensures { take result.count result.bytes ≡ pushed (take self.count self.bytes) byte }
     {
         let at = self.count;
         if SIZE <= at {
@@ -46,44 +66,29 @@ impl Line {
 
     // The line without the CR that stands before its LF.
     pub fn without_cr(mut self) -> Line
-        requires { self.count ≤ line_size }
-        ensures { (result ≡ without_cr self) × (result.count ≤ line_size) }
+        ensures { take result.count result.bytes ≡ without_cr (take self.count self.bytes) }
     {
-        let count = self.count;
-        if count == 0 {
-            return self;
-        }
-        let last = count - 1;
-        let byte = self.bytes[last];
-        if byte == CR {
-            self.count = last;
-            return self;
+        if let Some(before) = self.as_slice().strip_suffix(b"\r") {
+            self.count = before.len();
         }
         self
     }
 
     // Takes bytes of a block from a place on, to the line's LF or the block's end.
     pub fn gathered(self, block: &[u8], from: usize) -> Gathered
-        ensures { result ≡ gathered_of self from (drop from block.now) }
+        ensures { (take result.line.count result.line.bytes, result.next) ≡ gathered_of (take self.count self.bytes) from (drop from block.now) }
     {
         let mut line = self;
-        let mut at = from;
-        while at < block.len() {
+        for at in from..block.len() {
             let byte = block[at];
-            at += 1;
             if byte == LF {
                 return Gathered {
                     line,
-                    next: at,
-                    ended: true,
+                    next: Some(at + 1),
                 };
             }
             line = line.pushed(byte);
         }
-        Gathered {
-            line,
-            next: at,
-            ended: false,
-        }
+        Gathered { line, next: None }
     }
 }

@@ -1,133 +1,99 @@
-// The numbers of a line, read as its command takes them: signed ones first, unsigned ones after them.
+// The numbers of a line, each read as its command takes it.
+ghost use Rattle.std.specs.Prelude.{◌≤◌, IfOk};
+
 use crate::flaw::Flaw;
-use crate::number::{Number, Signed, Unsigned, as_signed, as_unsigned, read_number};
-use crate::shape::PATTERNS;
-use crate::word::word;
+use crate::number::{Number, NumberError, read_number};
+use crate::word::{count, word};
 use access::vector::{Choice, Vector};
 
-// The most unsigned numbers of a command: three of an entry and a vector.
-pub const MOST: usize = 7;
+// The patterns of a vector.
+pub(crate) const PATTERNS: usize = 4;
 
+// The line's text. A word's place says which word it is; the command's is 0, and its numbers' are 1 and on.
 #[derive(Clone, Copy)]
-pub struct Numbers {
-    // What is wrong with the first word that is no number or does not fit.
-    pub flaw: Flaw,
-    pub first: i32,
-    pub second: i32,
-    pub rest: [u32; MOST],
+pub(crate) struct Numbers<'a> {
+    text: &'a [u8],
 }
 
-impl Numbers {
-    pub fn none() -> Numbers {
-        Numbers {
-            flaw: Flaw::None,
-            first: 0,
-            second: 0,
-            rest: [0; MOST],
-        }
+impl<'a> Numbers<'a> {
+    pub(crate) fn of(text: &'a [u8]) -> Numbers<'a> {
+        Numbers { text }
     }
 
-    // The first flaw is the one that is told.
-    fn spoilt(self, flaw: Flaw) -> Numbers {
-        let before = self.flaw;
-        match before {
-            Flaw::None => Numbers { flaw, ..self },
-            _ => self,
-        }
+    fn given(self) -> usize {
+        count(self.text).saturating_sub(1)
     }
 
-    // The number at this place of the line, which is a signed one.
-    fn with_signed(mut self, place: usize, number: Number) -> Numbers {
-        match as_signed(number) {
-            Signed::NoNumber => self.spoilt(Flaw::NoNumber(place)),
-            Signed::OutOfRange => self.spoilt(Flaw::OutOfRange(place)),
-            Signed::Is(value) => {
-                if place == 1 {
-                    self.first = value;
-                    return self;
-                }
-                self.second = value;
-                self
-            }
+    // So many numbers are given: the fewest, or with all that may be left out the most.
+    pub(crate) fn counted(self, fewest: usize, most: usize) -> Result<(), Flaw> {
+        let given = self.given();
+        if given == fewest || given == most {
+            return Ok(());
         }
+        Err(Flaw::Count {
+            fewest,
+            most,
+            given,
+        })
     }
 
-    // The number at this place of the line, which is unsigned number k.
-    fn with_unsigned(mut self, place: usize, k: usize, number: Number) -> Numbers {
-        match as_unsigned(number) {
-            Unsigned::NoNumber => self.spoilt(Flaw::NoNumber(place)),
-            Unsigned::OutOfRange => self.spoilt(Flaw::OutOfRange(place)),
-            Unsigned::Is(value) => {
-                if k < MOST {
-                    self.rest[k] = value;
-                    return self;
-                }
-                self
-            }
-        }
+    // The number at this place, as the type that is wanted there.
+    pub(crate) fn number<T: TryFrom<Number, Error = NumberError>>(
+        self,
+        place: usize,
+    ) -> Result<T, Flaw> {
+        read_number(word(self.text, place))
+            .and_then(|number| T::try_from(number))
+            .map_err(|error| Flaw::Number { place, error })
     }
 
-    // The number at this place of the line; the first number's place is 1.
-    fn with(self, place: usize, signed: usize, number: Number) -> Numbers {
-        if place <= signed {
-            return self.with_signed(place, number);
+    // A number that may be left out.
+    pub(crate) fn optional(self, place: usize) -> Result<Option<u32>, Flaw> {
+        if self.given() < place {
+            return Ok(None);
         }
-        self.with_unsigned(place, place - signed - 1, number)
+        Ok(Some(self.number(place)?))
     }
 
-    // The numbers of a text's words after the first.
-    pub fn of(text: &[u8], signed: usize, count: usize) -> Numbers {
-        let mut numbers = Numbers::none();
-        let mut k = 0;
-        while k < count {
-            let next = k + 1;
-            numbers = numbers.with(next, signed, read_number(word(text, next)));
-            k = next;
+    // A number that must be smaller than its type allows.
+    pub(crate) fn at_most(self, place: usize, most: u32) -> Result<u32, Flaw>
+        ensures { IfOk result (λ number. number ≤ most) }
+    {
+        let number = self.number(place)?;
+        if number <= most {
+            return Ok(number);
         }
-        numbers
+        Err(Flaw::Number {
+            place,
+            error: NumberError::OutOfRange,
+        })
     }
 
-    // The unsigned number k; 0 past the last.
-    pub fn plain(self, k: usize) -> u32 {
-        if k < MOST {
-            return self.rest[k];
-        }
-        0
+    // A call on an object has so many numbers; the first two are the calling task's and the object's.
+    pub(crate) fn call(self, count: usize) -> Result<(i32, i32), Flaw> {
+        self.counted(count, count)?;
+        Ok((self.number(1)?, self.number(2)?))
     }
 
-    // The unsigned number k is at most so large, or its word, at this place of the line, is wrong; the first wrong word is told.
-    pub fn limited(self, place: usize, k: usize, most: u32) -> Numbers {
-        if self.plain(k) <= most {
-            return self;
-        }
-        let flaw = self.flaw;
-        if flaw.is_before(place) {
-            return self;
-        }
-        Numbers {
-            flaw: Flaw::OutOfRange(place),
-            ..self
-        }
+    // The vector of the four patterns from this place on.
+    pub(crate) fn vector(self, place: usize) -> Result<Vector, Flaw>
+        requires { place ≤ 8 }
+    {
+        Ok(Vector {
+            normal1: self.number(place)?,
+            normal2: self.number(place + 1)?,
+            management: self.number(place + 2)?,
+            reference: self.number(place + 3)?,
+        })
     }
 
-    // The vector of the four unsigned numbers from k on.
-    pub fn vector(self, k: usize) -> Vector {
-        if MOST - PATTERNS < k {
-            return Vector::KERNEL;
+    // An entry's vector, which may be left out.
+    pub(crate) fn choice(self, place: usize) -> Result<Choice, Flaw>
+        requires { place ≤ 8 }
+    {
+        if self.given() < place {
+            return Ok(Choice::Default);
         }
-        Vector {
-            normal1: self.plain(k),
-            normal2: self.plain(k + 1),
-            management: self.plain(k + 2),
-            reference: self.plain(k + 3),
-        }
-    }
-
-    // An entry's vector, where four patterns stand after its other numbers.
-    pub fn choice(self, given: bool, after: usize) -> Choice {
-        if given {
-            return Choice::Given(self.vector(after));
-        }
-        Choice::Default
+        Ok(Choice::Given(self.vector(place)?))
     }
 }

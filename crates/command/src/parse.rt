@@ -3,17 +3,13 @@ use crate::entry::Entry;
 use crate::flaw::Flaw;
 use crate::mem::HandOut;
 use crate::numbers::Numbers;
-use crate::verb::{command_of, limited, takes, with_numbers};
-use crate::word;
+use crate::verb::command_of;
+use crate::word::word;
 use access::vector::Vector;
 use model::Request;
 
 #[derive(Clone, Copy)]
 pub enum Command {
-    // No word: nothing to do and nothing to print.
-    Blank,
-    // Not made.
-    Bad(Flaw),
     // The words behind the command are written, and nothing else.
     Say,
     // For n user domains, with this protection unit.
@@ -33,41 +29,10 @@ pub enum Command {
     Dump,
 }
 
-impl Command {
-    // The first of two that is not Bad.
-    pub(crate) fn or(self, other: Command) -> Command {
-        match self {
-            Command::Bad(_) => other,
-            _ => self,
-        }
+// The command of a text (crate::text), or why it is not made; None for a blank line, which asks for nothing.
+pub fn parse(text: &[u8]) -> Option<Result<Command, Flaw>> {
+    if text.is_empty() {
+        return None;
     }
-}
-
-// A command of the line's first word, given the count of numbers after it.
-fn with_count(text: &[u8], command: Command, count: usize) -> Command {
-    let shape = takes(command);
-    let fewest = shape.signed + shape.unsigned;
-    let most = fewest + shape.optional;
-    if count != fewest && count != most {
-        return Command::Bad(Flaw::Count(fewest, most, count));
-    }
-    let numbers = limited(command, Numbers::of(text, shape.signed, count));
-    let flaw = numbers.flaw;
-    match flaw {
-        Flaw::None => with_numbers(command, numbers, fewest < count),
-        _ => Command::Bad(flaw),
-    }
-}
-
-// The command of a text (crate::text).
-pub fn parse(text: &[u8]) -> Command {
-    let words = word::count(text);
-    if words == 0 {
-        return Command::Blank;
-    }
-    let command = command_of(word::word(text, 0));
-    match command {
-        Command::Bad(_) | Command::Say => command,
-        _ => with_count(text, command, words - 1),
-    }
+    Some(command_of(word(text, 0), Numbers::of(text)))
 }

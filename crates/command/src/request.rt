@@ -1,43 +1,28 @@
 // A whole line: its command and its echo.
-ghost use Rattle.std.specs.Prelude.{◌≤◌};
-ghost use Rattle.command.specs.Lines.{line_size};
-
 use crate::flaw::Flaw;
-use crate::line::{Line, SIZE};
+use crate::line::Line;
 use crate::parse::{Command, parse};
-use crate::text::Text;
+use crate::text::{long, text_of};
 
-// The echo is the first `count` bytes.
+// What a line asks, or why it is not made, and its text; None for a blank line.
 #[derive(Clone, Copy)]
 pub struct Asked {
-    pub command: Command,
-    pub echo: Text,
+    pub command: Option<Result<Command, Flaw>>,
+    pub echo: Line,
 }
 
 // What a line asks, given whether an LF ended it: a CR goes only before an LF.
-pub fn requested(line: Line, ended: bool) -> Asked
-    ensures { result.echo.count ≤ line_size }
-{
-    if SIZE <= line.count {
+pub fn requested(line: Line, ended: bool) -> Asked {
+    if line.is_full() {
         return Asked {
-            command: Command::Bad(Flaw::LongLine),
-            echo: Text::long(),
+            command: Some(Err(Flaw::LongLine)),
+            echo: long(),
         };
     }
-    if ended {
-        return of_text(Text::of(line.without_cr()));
-    }
-    of_text(Text::of(line))
-}
-
-fn of_text(echo: Text) -> Asked
-    requires { echo.count ≤ line_size }
-    ensures { result.echo.count ≤ line_size }
-{
-    let bytes = echo.bytes;
-    let count = echo.count;
+    let line = if ended { line.without_cr() } else { line };
+    let echo = text_of(line.as_slice());
     Asked {
-        command: parse(&bytes[..count]),
+        command: parse(echo.as_slice()),
         echo,
     }
 }

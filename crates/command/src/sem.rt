@@ -1,79 +1,51 @@
 // The lines of semaphores: the entry's and the calls'.
-ghost use Rattle.command.specs.Shapes.{Small};
-
 use crate::entry::Entry;
 use crate::flaw::Flaw;
-use crate::numbers::Numbers;
+use crate::numbers::{Numbers, PATTERNS};
 use crate::parse::Command;
-use crate::shape::{PATTERNS, Shape};
-use access::vector::Vector;
-use check::same;
 use model::sem::{SemaphoreCall, SemaphoreRequest};
 use model::{Patience, Request};
 use semaphore::entry::SemaphoreEntry;
 
-// What an entry gives before its vector: attribute, start and max.
-pub const BEFORE_VECTOR: usize = 3;
-
-// A call as its word names it: the line's numbers are put in later.
-fn asked(request: SemaphoreRequest) -> Command {
-    Command::Call(0, Request::Semaphore(0, request))
+// The command that a word of this kind names, with the line's numbers; None for any other word.
+pub(crate) fn named(word: &[u8], numbers: Numbers) -> Option<Result<Command, Flaw>> {
+    let command = match word {
+        b"sem" => entry(numbers),
+        b"sig_sem" => own(numbers, SemaphoreCall::Signal),
+        b"pol_sem" => own(numbers, SemaphoreCall::Acquire(Patience::Polling)),
+        b"wai_sem" => own(numbers, SemaphoreCall::Acquire(Patience::Forever)),
+        b"ref_sem" => asked(numbers, SemaphoreRequest::Refer),
+        b"sac_sem" => set_vector(numbers),
+        _ => return None,
+    };
+    Some(command)
 }
 
-// Poll and wait differ in their patience alone.
-fn acquire(patience: Patience) -> Command {
-    asked(SemaphoreRequest::Own(SemaphoreCall::Acquire(patience)))
+// Domain, attribute, start and max, and the vector if that is given.
+fn entry(numbers: Numbers) -> Result<Command, Flaw> {
+    numbers.counted(4, 4 + PATTERNS)?;
+    let entry = SemaphoreEntry {
+        domain: numbers.number(1)?,
+        attribute: numbers.number(2)?,
+        start: numbers.number(3)?,
+        max: numbers.number(4)?,
+        vector: numbers.choice(5)?,
+    };
+    Ok(Command::Entry(Entry::Semaphore(entry)))
 }
 
-// The command that a word names, with zeros where the line's numbers will stand; Bad for no word of this kind.
-pub fn named(word: &[u8]) -> Command {
-    if same(word, b"sem") {
-        return Command::Entry(Entry::Semaphore(entry(Numbers::none(), false)));
-    }
-    if same(word, b"sig_sem") {
-        return asked(SemaphoreRequest::Own(SemaphoreCall::Signal));
-    }
-    if same(word, b"pol_sem") {
-        return acquire(Patience::Polling);
-    }
-    if same(word, b"wai_sem") {
-        return acquire(Patience::Forever);
-    }
-    if same(word, b"ref_sem") {
-        return asked(SemaphoreRequest::Refer);
-    }
-    if same(word, b"sac_sem") {
-        return asked(SemaphoreRequest::SetVector(Vector::KERNEL));
-    }
-    Command::Bad(Flaw::UnknownCommand)
+// A call with no number of its own.
+fn asked(numbers: Numbers, request: SemaphoreRequest) -> Result<Command, Flaw> {
+    let (task, semaphore) = numbers.call(2)?;
+    Ok(Command::Call(task, Request::Semaphore(semaphore, request)))
 }
 
-// A semaphore's own calls hold no number of the line's.
-pub fn shape_of(request: SemaphoreRequest) -> Shape
-    ensures { Small result }
-{
-    match request {
-        SemaphoreRequest::Own(_) | SemaphoreRequest::Refer => Shape::call(0),
-        SemaphoreRequest::SetVector(_) => Shape::call(PATTERNS),
-    }
+fn own(numbers: Numbers, call: SemaphoreCall) -> Result<Command, Flaw> {
+    asked(numbers, SemaphoreRequest::Own(call))
 }
 
-// The request with the line's numbers in it.
-pub fn with_numbers(request: SemaphoreRequest, numbers: Numbers) -> SemaphoreRequest {
-    match request {
-        SemaphoreRequest::Own(_) | SemaphoreRequest::Refer => request,
-        SemaphoreRequest::SetVector(_) => SemaphoreRequest::SetVector(numbers.vector(0)),
-    }
-}
-
-// The entry of a line's numbers; `given` says that a vector stands after them.
-pub fn entry(numbers: Numbers, given: bool) -> SemaphoreEntry {
-    let vector = numbers.choice(given, BEFORE_VECTOR);
-    SemaphoreEntry {
-        domain: numbers.first,
-        attribute: numbers.plain(0),
-        start: numbers.plain(1),
-        max: numbers.plain(2),
-        vector,
-    }
+fn set_vector(numbers: Numbers) -> Result<Command, Flaw> {
+    let (task, semaphore) = numbers.call(2 + PATTERNS)?;
+    let request = SemaphoreRequest::SetVector(numbers.vector(3)?);
+    Ok(Command::Call(task, Request::Semaphore(semaphore, request)))
 }

@@ -1,5 +1,6 @@
 // Why a line is not made, behind `bad line` (docs/replay.md, "Input").
 use command::flaw::Flaw;
+use command::number::NumberError;
 use command::word::word;
 use report::output::{BLOCK, put, put_number};
 
@@ -41,10 +42,19 @@ fn put_word(out: &mut [u8; BLOCK], at: usize, reason: &[u8], text: &[u8], place:
 pub fn put_flaw(out: &mut [u8; BLOCK], at: usize, text: &[u8], flaw: Flaw) -> usize {
     let at = put(out, at, b"bad line");
     match flaw {
-        Flaw::None | Flaw::LongLine => at,
+        Flaw::LongLine => at,
         Flaw::UnknownCommand => put(out, at, b": no such command"),
-        Flaw::Count(fewest, most, given) => put_count(out, at, fewest, most, given),
-        Flaw::NoNumber(place) => put_word(out, at, b": no number: ", text, place),
-        Flaw::OutOfRange(place) => put_word(out, at, b": out of range: ", text, place),
+        Flaw::Count {
+            fewest,
+            most,
+            given,
+        } => put_count(out, at, fewest, most, given),
+        Flaw::Number { place, error } => {
+            let reason: &[u8] = match error {
+                NumberError::NoNumber => b": no number: ",
+                NumberError::OutOfRange => b": out of range: ",
+            };
+            put_word(out, at, reason, text, place)
+        }
     }
 }

@@ -7,6 +7,7 @@ use crate::hand_out::put_hand_out;
 use crate::output::Output;
 use access::audit::audit;
 use command::entry::Entry;
+use command::flaw::Flaw;
 use command::parse::Command;
 use command::word::behind_first;
 use kernel::state::{Answer, Entered, State};
@@ -67,7 +68,16 @@ fn enter(out: &mut [u8; BLOCK], output: Output, state: State, entry: Entry) -> M
     }
 }
 
-// Makes the command of a line's text and puts its answer and the line's end; a blank one puts nothing.
+// A line that is not made: why, and the line's end.
+pub fn refuse(out: &mut [u8; BLOCK], output: Output, state: State, text: &[u8], flaw: Flaw) -> Made
+    requires { Valid state }
+    ensures { Valid result.state }
+{
+    let at = put_flaw(out, output.at, text, flaw);
+    told(out, output, at, state)
+}
+
+// Makes the command of a line's text and puts its answer and the line's end.
 pub fn perform(
     out: &mut [u8; BLOCK],
     output: Output,
@@ -80,11 +90,6 @@ pub fn perform(
 {
     let at = output.at;
     match command {
-        Command::Blank => Made { output, state },
-        Command::Bad(flaw) => {
-            let at = put_flaw(out, at, text, flaw);
-            told(out, output, at, state)
-        }
         Command::Say => {
             let at = put(out, at, behind_first(text));
             told(out, output, at, state)

@@ -2,7 +2,8 @@
 ghost use Rattle.kernel.specs.Valid.{Valid};
 
 use crate::output::Output;
-use crate::perform::{Made, perform};
+use crate::perform::{Made, perform, refuse};
+use command::flaw::Flaw;
 use command::line::Line;
 use command::parse::Command;
 use command::request::requested;
@@ -24,23 +25,36 @@ pub struct Session {
     pub going: bool,
 }
 
-// The echo and the arrow before an answer; what is said has neither.
-fn put_echo(out: &mut [u8; BLOCK], at: usize, text: &[u8], command: Command) -> usize {
-    if let Command::Say = command {
-        return at;
-    }
+// The echo and the arrow before an answer.
+fn put_echo(out: &mut [u8; BLOCK], at: usize, text: &[u8]) -> usize {
     let at = put(out, at, text);
     put(out, at, b" -> ")
 }
 
-// Makes the command of a line's text: its echo and its answer are put.
-fn obey(out: &mut [u8; BLOCK], output: Output, state: State, text: &[u8], command: Command) -> Made
+// Makes the command of a line's text: its echo and its answer are put; what is said has no echo and no arrow.
+fn obey(
+    out: &mut [u8; BLOCK],
+    output: Output,
+    state: State,
+    text: &[u8],
+    command: Result<Command, Flaw>,
+) -> Made
     requires { Valid state }
     ensures { Valid result.state }
 {
     let output = output.with_room(out);
-    let at = put_echo(out, output.at, text, command);
-    perform(out, output.up_to(at), state, text, command)
+    let at = output.at;
+    match command {
+        Ok(Command::Say) => perform(out, output, state, text, Command::Say),
+        Ok(command) => {
+            let at = put_echo(out, at, text);
+            perform(out, output.up_to(at), state, text, command)
+        }
+        Err(flaw) => {
+            let at = put_echo(out, at, text);
+            refuse(out, output.up_to(at), state, text, flaw)
+        }
+    }
 }
 
 // Makes a whole line, if it asks for anything.
@@ -49,14 +63,11 @@ fn make(out: &mut [u8; BLOCK], output: Output, state: State, line: Line, ended: 
     ensures { Valid result.state }
 {
     let request = requested(line, ended);
-    let command = request.command;
     let echo = request.echo;
-    if let Command::Blank = command {
-        return Made { output, state };
+    match request.command {
+        None => Made { output, state },
+        Some(command) => obey(out, output, state, echo.as_slice(), command),
     }
-    let bytes = echo.bytes;
-    let count = echo.count;
-    obey(out, output, state, &bytes[..count], command)
 }
 
 // The first bytes of a block; all of them where it has no more.
@@ -145,10 +156,10 @@ impl Session {
         let next = self.next;
         let taken = line.gathered(head(block, end), next);
         let line = taken.line;
-        if taken.ended {
-            return self.with_line(out, line, taken.next);
+        match taken.next {
+            Some(next) => self.with_line(out, line, next),
+            None => self.with_block(input, block, out, line),
         }
-        self.with_block(input, block, out, line)
     }
 
     // The last line may lack its LF; whether all answers could be written.
@@ -157,7 +168,7 @@ impl Session {
     {
         let line = self.line;
         let output = self.output;
-        if line.count == 0 {
+        if line.is_empty() {
             return output.written;
         }
         let made = make(out, output, self.state, line, false);

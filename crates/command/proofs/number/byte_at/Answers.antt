@@ -1,7 +1,0 @@
--- `command::number::byte_at` meets its contract: within the text, and past its end. Assumes nothing.
-use mathlib.Core.Path.{sym}
-use lib.ListN.{get_or-eq_default}
-use Rattle.command.proofs.number.byte_at.Goals as goal
-
-pub returns : goal.returns
-returns c = sym (get_or-eq_default c.args.text.now 0 c.if-at-text.false)

@@ -1,9 +1,0 @@
--- `command::numbers::Numbers::of` meets its contract. Nothing has to hold from turn to turn. The measure is the count of words left. Assumes nothing.
-use Prim.Native.Nat.{◌-◌}
-use Rattle.command.proofs.numbers.Numbers.of.Given as goal
-
-abbrev pub invariant-loop-k : goal.invariant-loop-k
-invariant-loop-k l = Unit {0}
-
-abbrev pub decreases-loop-k : goal.decreases-loop-k
-decreases-loop-k l = l.count - l.k
