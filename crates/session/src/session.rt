@@ -5,7 +5,7 @@ ghost use Rattle.kernel.specs.Valid.{Valid};
 use crate::perform::perform;
 use command::line::Line;
 use command::parse::Command;
-use command::request::requested;
+use command::request::{Asked, requested};
 use kernel::state::State;
 use std::io;
 use std::io::{Read, Write};
@@ -52,11 +52,8 @@ impl Session {
         requires { Valid self.old.state }
         ensures { Valid self.new.state }
     {
-        let request = requested(self.line, ended);
-        let echo = request.echo;
-        let bytes = echo.bytes;
-        let count = echo.count;
-        self.state = obey(out, self.state, &bytes[..count], request.command)?;
+        let Asked { command, echo } = requested(self.line, ended);
+        self.state = obey(out, self.state, &echo.bytes[..echo.count], command)?;
         self.line = Line::empty();
         Ok(())
     }
