@@ -6,18 +6,23 @@ use dataqueue::entry::QueueEntry;
 use itron::limit::MIN_UNIT;
 use kernel::state::State;
 use model::Outcome;
-use text::print;
+use std::{fmt, io};
+use text::code::Code;
 
-fn tell(call: &[u8], outcome: Outcome) {
-    print::text(call);
-    match outcome {
-        Outcome::Code(code) => print::code(code),
-        Outcome::Waiting => print::text(b"waiting"),
+// What a call answers, as text.
+#[derive(Clone, Copy)]
+struct Told(Outcome);
+
+impl fmt::Display for Told {
+    fn fmt<W: fmt::Write>(&self, f: &mut fmt::Formatter<W>) -> fmt::Result {
+        match self.0 {
+            Outcome::Code(number) => write!(f, "{}", Code(number)),
+            Outcome::Waiting => write!(f, "waiting"),
+        }
     }
-    print::text(b"\n");
 }
 
-fn main() {
+fn main(rt: HostRuntime) -> io::Result<()> {
     let table = State::fresh(2, MIN_UNIT).state;
     // A task's domain and its priority.
     let table = table.add_task(1, 1).state;
@@ -30,9 +35,9 @@ fn main() {
     };
     let gateway = table.add_queue(queue).state.close().state;
     let own = gateway.psnd_dtq(1, 1, 700);
-    let outcome = own.outcome;
-    tell(b"Task 1, of domain 1, sends 700 to queue 1: ", outcome);
+    let outcome = Told(own.outcome);
+    println!(rt; "Task 1, of domain 1, sends 700 to queue 1: {outcome}")?;
     let other = own.state.psnd_dtq(2, 1, 870);
-    let outcome = other.outcome;
-    tell(b"Task 2, of domain 2, sends 870 to queue 1: ", outcome);
+    let outcome = Told(other.outcome);
+    println!(rt; "Task 2, of domain 2, sends 870 to queue 1: {outcome}")
 }

@@ -1,70 +1,57 @@
-// The lines of data queues: a dump's and the answers'.
+// The lines of data queues: a dump's and a refer's.
 ghost use Rattle.kernel.specs.Valid.{Valid};
 
-use crate::line::{LF, put_comma, put_head, put_vector, put_waiters};
-use crate::names::put_outcome;
-use crate::output::{BLOCK, put, put_byte, put_named, put_number};
-use crate::show::put_reply;
+use crate::line::{Patterns, separator, write_waiters};
+use crate::names::Told;
 use kernel::state::{Answer, State};
 use model::Side;
-use model::dtq::QueueRequest;
-
-// The words of a buffer, oldest first.
-fn put_words(out: &mut [u8; BLOCK], at: usize, state: State, number: usize, count: usize) -> usize
-    requires { Valid state }
-{
-    let mut end = at;
-    let mut k = 0;
-    while k < count {
-        end = put_comma(out, end, k);
-        end = put_number(out, end, state.word(number, k) as u64);
-        k += 1;
-    }
-    end
-}
-
-// Those who wait on both sides, the senders first.
-fn put_queue_waiters(out: &mut [u8; BLOCK], at: usize, state: State, number: usize) -> usize
-    requires { Valid state }
-{
-    let at = put(out, at, b" senders=");
-    let at = put_waiters(out, at, state, Side::Sending, number);
-    let at = put(out, at, b" receivers=");
-    put_waiters(out, at, state, Side::Receiving, number)
-}
-
-// A data queue's line of a dump.
-pub fn put_queue(out: &mut [u8; BLOCK], at: usize, state: State, number: usize) -> usize
-    requires { Valid state }
-{
-    let queue = state.queue(number);
-    let vector = queue.vector;
-    let at = put_head(out, at, b"  dtq ", number, queue.domain);
-    let at = put_named(out, at, b" capacity=", queue.capacity as u64);
-    let at = put_vector(out, at, vector);
-    let at = put(out, at, b" buffer=");
-    let at = put_words(out, at, state, number, queue.count);
-    let at = put_queue_waiters(out, at, state, number);
-    let at = put_named(out, at, b" attr=", queue.attribute as u64);
-    put_byte(out, at, LF)
-}
+use std::io::Write;
+use std::{fmt, io};
 
 // `CODE sender=T receiver=T count=C vector=P,P,P,P`
-fn put_info(out: &mut [u8; BLOCK], at: usize, answer: Answer) -> usize {
-    let outcome = answer.outcome;
-    let info = answer.info;
-    let vector = info.vector;
-    let at = put_outcome(out, at, outcome);
-    let at = put_named(out, at, b" sender=", info.first as u64);
-    let at = put_named(out, at, b" receiver=", info.second as u64);
-    let at = put_named(out, at, b" count=", info.amount as u64);
-    put_vector(out, at, vector)
+#[derive(Clone, Copy)]
+pub(crate) struct Referred<'a>(pub &'a Answer);
+
+impl fmt::Display for Referred<'_> {
+    fn fmt<W: fmt::Write>(&self, f: &mut fmt::Formatter<W>) -> fmt::Result {
+        let info = self.0.info;
+        let told = Told(self.0.outcome);
+        let sender = info.first;
+        let receiver = info.second;
+        let count = info.amount;
+        let patterns = Patterns(info.vector);
+        write!(
+            f,
+            "{told} sender={sender} receiver={receiver} count={count} vector={patterns}"
+        )
+    }
 }
 
-// Only a refer tells of the queue itself.
-pub fn put_answer(out: &mut [u8; BLOCK], at: usize, asked: QueueRequest, answer: Answer) -> usize {
-    match asked {
-        QueueRequest::Own(_) | QueueRequest::SetVector(_) => put_reply(out, at, answer),
-        QueueRequest::Refer => put_info(out, at, answer),
+// The words of a buffer, oldest first.
+fn write_words<W: Write>(out: &mut W, state: &State, number: usize, count: usize) -> io::Result<()>
+    requires { Valid state.now }
+{
+    for k in 0..count {
+        write!(out, "{}{}", separator(k), state.word(number, k))?;
     }
+    Ok(())
+}
+
+pub(crate) fn write_queue<W: Write>(out: &mut W, state: &State, number: usize) -> io::Result<()>
+    requires { Valid state.now }
+{
+    let queue = state.queue(number);
+    let domain = queue.domain;
+    let capacity = queue.capacity;
+    let patterns = Patterns(queue.vector);
+    write!(
+        out,
+        "  dtq {number} domain={domain} capacity={capacity} vector={patterns} buffer="
+    )?;
+    write_words(out, state, number, queue.count)?;
+    write!(out, " senders=")?;
+    write_waiters(out, state, Side::Sending, number)?;
+    write!(out, " receivers=")?;
+    write_waiters(out, state, Side::Receiving, number)?;
+    writeln!(out, " attr={}", queue.attribute)
 }

@@ -1,46 +1,39 @@
 // The lines of memory regions, and of what is handed out of them.
 ghost use Rattle.kernel.specs.Valid.{Valid};
 
-use crate::line::{LF, put_head, put_vector};
-use crate::names::put_code;
-use crate::output::{BLOCK, put_byte, put_named};
+use crate::line::Patterns;
+use crate::names::Code;
 use kernel::state::State;
+use std::io::Write;
+use std::{fmt, io};
 
-// A region's line of a dump.
-pub fn put_region(out: &mut [u8; BLOCK], at: usize, state: State, number: usize) -> usize
-    requires { Valid state }
+pub(crate) fn write_region<W: Write>(out: &mut W, state: &State, number: usize) -> io::Result<()>
+    requires { Valid state.now }
 {
     let region = state.region(number);
-    let vector = region.vector;
-    let at = put_head(out, at, b"  mem ", number, region.domain);
-    let at = put_named(out, at, b" attr=", region.attribute as u64);
-    let at = put_named(out, at, b" base=", region.base as u64);
-    let at = put_named(out, at, b" size=", region.size as u64);
-    let at = put_vector(out, at, vector);
-    put_byte(out, at, LF)
+    let domain = region.domain;
+    let attribute = region.attribute;
+    let base = region.base;
+    let size = region.size;
+    let patterns = Patterns(region.vector);
+    write!(out, "  mem {number} domain={domain} attr={attribute}")?;
+    writeln!(out, " base={base} size={size} vector={patterns}")
 }
 
-// The first byte of a part; 0 where it is empty.
-fn first(part: &[u8]) -> u8 {
-    if part.len() == 0 {
-        return 0;
+// `CODE length=L first=B last=B`: the bytes of an empty part are told as 0.
+#[derive(Clone, Copy)]
+pub struct Handed<'a> {
+    pub code: i32,
+    pub part: &'a [u8],
+}
+
+impl fmt::Display for Handed<'_> {
+    fn fmt<W: fmt::Write>(&self, f: &mut fmt::Formatter<W>) -> fmt::Result {
+        let part = self.part;
+        let code = Code(self.code);
+        let length = part.len();
+        let first = part.first().copied().unwrap_or(0);
+        let last = part.last().copied().unwrap_or(0);
+        write!(f, "{code} length={length} first={first} last={last}")
     }
-    part[0]
-}
-
-// The last one; 0 where it is empty.
-fn last(part: &[u8]) -> u8 {
-    let count = part.len();
-    if count == 0 {
-        return 0;
-    }
-    part[count - 1]
-}
-
-// `CODE length=L first=B last=B`
-pub fn put_handed(out: &mut [u8; BLOCK], at: usize, code: i32, part: &[u8]) -> usize {
-    let at = put_code(out, at, code);
-    let at = put_named(out, at, b" length=", part.len() as u64);
-    let at = put_named(out, at, b" first=", first(part) as u64);
-    put_named(out, at, b" last=", last(part) as u64)
 }

@@ -1,21 +1,17 @@
-// Result codes by their names.
-use crate::output::{BLOCK, put, put_signed};
+// Result codes and outcomes by their names.
 use model::Outcome;
-use text::code::{LONGEST_NAME, put_name};
+use std::fmt;
+pub use text::code::Code;
 
-// A number that is no code is shown as it is.
-pub fn put_code(out: &mut [u8; BLOCK], at: usize, number: i32) -> usize {
-    let mut name = [0u8; LONGEST_NAME];
-    let len = put_name(&mut name, number);
-    if len == 0 {
-        return put_signed(out, at, number);
-    }
-    put(out, at, &name[..len])
-}
+// What a call answers.
+#[derive(Clone, Copy)]
+pub struct Told(pub Outcome);
 
-pub fn put_outcome(out: &mut [u8; BLOCK], at: usize, outcome: Outcome) -> usize {
-    match outcome {
-        Outcome::Code(number) => put_code(out, at, number),
-        Outcome::Waiting => put(out, at, b"waiting"),
+impl fmt::Display for Told {
+    fn fmt<W: fmt::Write>(&self, f: &mut fmt::Formatter<W>) -> fmt::Result {
+        match self.0 {
+            Outcome::Code(number) => write!(f, "{}", Code(number)),
+            Outcome::Waiting => write!(f, "waiting"),
+        }
     }
 }

@@ -1,37 +1,43 @@
 // The lines of tasks.
 ghost use Rattle.kernel.specs.Valid.{Valid};
 
-use crate::line::{LF, put_head};
-use crate::output::{BLOCK, put, put_byte, put_named};
 use kernel::state::State;
+use std::io::Write;
+use std::{fmt, io};
 use tasks::task::Wait;
 
 // The number of an index.
-fn number_of(index: u8) -> u64 {
-    index as u64 + 1
+fn number_of(index: u8) -> u16 {
+    u16::from(index) + 1
 }
 
 // What a task waits for.
-fn put_wait(out: &mut [u8; BLOCK], at: usize, wait: Wait) -> usize {
-    match wait {
-        Wait::Ready => put(out, at, b" ready"),
-        Wait::OnSem(object) => put_named(out, at, b" sem=", number_of(object)),
-        Wait::Receiving(object) => put_named(out, at, b" receiving=", number_of(object)),
-        Wait::Sending(object, word) => {
-            let at = put_named(out, at, b" sending=", number_of(object));
-            put_named(out, at, b" word=", word as u64)
+#[derive(Clone, Copy)]
+struct Waits(Wait);
+
+impl fmt::Display for Waits {
+    fn fmt<W: fmt::Write>(&self, f: &mut fmt::Formatter<W>) -> fmt::Result {
+        match self.0 {
+            Wait::Ready => write!(f, "ready"),
+            Wait::OnSem(object) => write!(f, "sem={}", number_of(object)),
+            Wait::Receiving(object) => write!(f, "receiving={}", number_of(object)),
+            Wait::Sending(object, word) => {
+                write!(f, "sending={} word={word}", number_of(object))
+            }
         }
     }
 }
 
-// A task's line of a dump.
-pub fn put_task(out: &mut [u8; BLOCK], at: usize, state: State, number: usize) -> usize
-    requires { Valid state }
+pub(crate) fn write_task<W: Write>(out: &mut W, state: &State, number: usize) -> io::Result<()>
+    requires { Valid state.now }
 {
     let task = state.task(number);
-    let at = put_head(out, at, b"  task ", number, task.domain());
-    let at = put_wait(out, at, task.wait());
-    let at = put_named(out, at, b" level=", state.level(number) as u64);
-    let at = put_named(out, at, b" priority=", task.priority() as u64);
-    put_byte(out, at, LF)
+    let domain = task.domain();
+    let priority = task.priority();
+    let level = state.level(number);
+    let waits = Waits(task.wait());
+    writeln!(
+        out,
+        "  task {number} domain={domain} {waits} level={level} priority={priority}"
+    )
 }

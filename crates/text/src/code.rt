@@ -1,53 +1,42 @@
 // Result codes by their names (document 01, "Codes a desk clerk sees"; E_SYS: request T-03; E_ILUSE: request T-05).
-ghost use Rattle.std.specs.Prelude.{◌≡◌, length};
-ghost use Rattle.io.specs.Counts.{IsPrefixLen};
-ghost use Rattle.text.specs.Names.{longest_name};
-
 use itron::code::{
     E_CTX, E_ID, E_ILUSE, E_MACV, E_NOEXS, E_NOID, E_NOMEM, E_OACV, E_OBJ, E_OK, E_PAR, E_QOVR,
     E_RSATR, E_SYS, E_TMOUT,
 };
+use std::fmt;
 
-// No name is longer.
-pub const LONGEST_NAME: usize = 8;
-
-// A name goes to the front of a block; how many bytes it has.
-fn put(out: &mut [u8; LONGEST_NAME], name: &[u8]) -> usize
-    requires { length out.old ≡ longest_name }
-    ensures { IsPrefixLen result out.new }
-{
-    let mut i: usize = 0;
-    while i < LONGEST_NAME {
-        if name.len() <= i {
-            return i;
-        }
-        out[i] = name[i];
-        i += 1;
+// The name of a result code; none for a number that is no code.
+pub fn code_name(number: i32) -> Option<&'static str> {
+    match number {
+        E_OK => Some("E_OK"),
+        E_SYS => Some("E_SYS"),
+        E_RSATR => Some("E_RSATR"),
+        E_PAR => Some("E_PAR"),
+        E_ID => Some("E_ID"),
+        E_CTX => Some("E_CTX"),
+        E_MACV => Some("E_MACV"),
+        E_OACV => Some("E_OACV"),
+        E_ILUSE => Some("E_ILUSE"),
+        E_NOMEM => Some("E_NOMEM"),
+        E_NOID => Some("E_NOID"),
+        E_OBJ => Some("E_OBJ"),
+        E_NOEXS => Some("E_NOEXS"),
+        E_QOVR => Some("E_QOVR"),
+        E_TMOUT => Some("E_TMOUT"),
+        _ => None,
     }
-    i
 }
 
-// The name of a code goes to the front of a block; how many bytes it has, 0 for a number that is no code.
-pub fn put_name(out: &mut [u8; LONGEST_NAME], number: i32) -> usize
-    requires { length out.old ≡ longest_name }
-    ensures { IsPrefixLen result out.new }
-{
-    match number {
-        E_OK => put(out, b"E_OK"),
-        E_SYS => put(out, b"E_SYS"),
-        E_RSATR => put(out, b"E_RSATR"),
-        E_PAR => put(out, b"E_PAR"),
-        E_ID => put(out, b"E_ID"),
-        E_CTX => put(out, b"E_CTX"),
-        E_MACV => put(out, b"E_MACV"),
-        E_OACV => put(out, b"E_OACV"),
-        E_ILUSE => put(out, b"E_ILUSE"),
-        E_NOMEM => put(out, b"E_NOMEM"),
-        E_NOID => put(out, b"E_NOID"),
-        E_OBJ => put(out, b"E_OBJ"),
-        E_NOEXS => put(out, b"E_NOEXS"),
-        E_QOVR => put(out, b"E_QOVR"),
-        E_TMOUT => put(out, b"E_TMOUT"),
-        _ => 0,
+// A result code is shown by its name, and a number that is no code as it is.
+#[derive(Clone, Copy)]
+pub struct Code(pub i32);
+
+impl fmt::Display for Code {
+    fn fmt<W: fmt::Write>(&self, f: &mut fmt::Formatter<W>) -> fmt::Result {
+        let number = self.0;
+        match code_name(number) {
+            Some(name) => write!(f, "{name}"),
+            None => write!(f, "{number}"),
+        }
     }
 }

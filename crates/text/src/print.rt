@@ -1,6 +1,5 @@
 // Bytes and numbers on standard output. A line begins with its line feed.
-use crate::code::{LONGEST_NAME, put_name};
-use crate::sign::magnitude;
+use crate::code::code_name;
 
 const STDOUT: i32 = 1;
 
@@ -22,14 +21,14 @@ pub fn signed(n: i32) {
     if n < 0 {
         text(b"-");
     }
-    io::print_decimal(STDOUT, magnitude(n));
+    io::print_decimal(STDOUT, u64::from(n.unsigned_abs()));
 }
 
-// A result code by its name.
+// A result code by its name; nothing for a number that is no code.
 pub fn code(number: i32) {
-    let mut name = [0u8; LONGEST_NAME];
-    let len = put_name(&mut name, number);
-    text(&name[..len]);
+    if let Some(name) = code_name(number) {
+        text(name.as_bytes());
+    }
 }
 
 // An address, as document 01 writes it.

@@ -1,5 +1,6 @@
 -- `State::get_mem` meets its contract. Assumes nothing.
 use mathlib.Core.Path.{◌≡◌, sym, ap, ◌∙◌}
+use mathlib.Core.List.{[]}
 use mir.Facts.{to_z-of_z}
 use Rattle.std.specs.Prelude.{option_copied, unwrap_or}
 use Rattle.model.specs.Images.{image}
@@ -15,12 +16,12 @@ pub returns-in_default : goal.returns-in_default
 returns-in_default c =
     let a = c.args in
     let p = part_by c.new.ensures.flash c.new.ensures.ram a.base a.size c.part.ensures in
-    ap (λ o. unwrap_or (option_copied o) _) (sym c.in_default.is) ∙ p
+    ap (λ o. unwrap_or (option_copied o) []) (sym c.in_default.is) ∙ p
     ∙ part_ok a.self a.domain a.base a.size (image a.bases.flash a.flash.now) (image a.bases.ram a.ram.now) (rw (to_z-of_z c.ranges.domain) at c.hand_out-allowed.ensures) (sym c.is_err.ensures.value ∙ c.if-is_err.false)
 
 pub returns : goal.returns
 returns c =
     let a = c.args in
     let p = part_by c.new.ensures.flash c.new.ensures.ram a.base a.size c.part.ensures in
-    ap (λ o. unwrap_or (option_copied o) _) (sym c.in-Some.is) ∙ p
+    ap (λ o. unwrap_or (option_copied o) []) (sym c.in-Some.is) ∙ p
     ∙ part_ok a.self a.domain a.base a.size (image a.bases.flash a.flash.now) (image a.bases.ram a.ram.now) (rw (to_z-of_z c.ranges.domain) at c.hand_out-allowed.ensures) (sym c.is_err.ensures.value ∙ c.if-is_err.false)

@@ -1,0 +1,6 @@
+-- `Session::run` meets its contract. The loop's invariant: the state is valid. Assumes nothing.
+use Rattle.kernel.specs.Valid.{Valid}
+use Rattle.session.proofs.session.Session.run.Given as goal
+
+abbrev pub invariant-loop : goal.invariant-loop
+invariant-loop g l = Valid l.self.state

@@ -1,0 +1,6 @@
+-- `Session::take` meets its contract. The loop's invariant: the state is valid. Assumes nothing.
+use Rattle.kernel.specs.Valid.{Valid}
+use Rattle.session.proofs.session.Session.take.Given as goal
+
+abbrev pub invariant-loop-byte : goal.invariant-loop-byte
+invariant-loop-byte g l = Valid l.self.state
