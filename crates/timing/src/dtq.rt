@@ -7,9 +7,10 @@ use bench_table::closed;
 #[unsafe(no_mangle)]
 pub extern "C" fn timing_send_receive(pairs: u32, task: i32, id: i32) -> u32 {
     in_turn(pairs, closed(), |s, word| {
-        let sent = s.psnd_dtq(task, id, word).state;
-        let received = sent.prcv_dtq(task, id);
-        (received.state, received.word)
+        *s = s.psnd_dtq(task, id, word).state;
+        let received = s.prcv_dtq(task, id);
+        *s = received.state;
+        received.word
     })
 }
 
@@ -17,9 +18,10 @@ pub extern "C" fn timing_send_receive(pairs: u32, task: i32, id: i32) -> u32 {
 #[unsafe(no_mangle)]
 pub extern "C" fn timing_wait_send(pairs: u32, waiter: i32, task: i32, id: i32) -> u32 {
     in_turn(pairs, closed(), |s, word| {
-        let waiting = s.rcv_dtq(waiter, id).state;
-        let sent = waiting.snd_dtq(task, id, word);
-        (sent.state, sent.released.word)
+        *s = s.rcv_dtq(waiter, id).state;
+        let sent = s.snd_dtq(task, id, word);
+        *s = sent.state;
+        sent.released.word
     })
 }
 
@@ -27,9 +29,10 @@ pub extern "C" fn timing_wait_send(pairs: u32, waiter: i32, task: i32, id: i32) 
 #[unsafe(no_mangle)]
 pub extern "C" fn timing_force_receive(pairs: u32, task: i32, id: i32) -> u32 {
     in_turn(pairs, closed(), |s, word| {
-        let sent = s.fsnd_dtq(task, id, word).state;
-        let received = sent.prcv_dtq(task, id);
-        (received.state, received.word)
+        *s = s.fsnd_dtq(task, id, word).state;
+        let received = s.prcv_dtq(task, id);
+        *s = received.state;
+        received.word
     })
 }
 
@@ -48,7 +51,9 @@ pub extern "C" fn timing_force_drop(rounds: u32, task: i32, id: i32) -> u32 {
 pub extern "C" fn timing_refer_set_queue(pairs: u32, task: i32, id: i32) -> u32 {
     in_turn(pairs, closed(), |s, _| {
         let told = s.ref_dtq(task, id);
+        *s = told.state;
         let vector = told.info.vector;
-        (told.state.sac_dtq(task, id, vector).state, vector.normal1)
+        *s = s.sac_dtq(task, id, vector).state;
+        vector.normal1
     })
 }

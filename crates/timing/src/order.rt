@@ -90,8 +90,10 @@ pub extern "C" fn timing_signal_wait<'a>(
     let start = all_wait(table(attribute, 0, priorities));
     in_turn(rounds, start, |s, _| {
         let signalled = s.sig_sem(task, ID);
+        *s = signalled.state;
         let next = released_task(signalled.released);
-        (signalled.state.wai_sem(next, ID).state, next as u32)
+        *s = s.wai_sem(next, ID).state;
+        next as u32
     })
 }
 
@@ -107,9 +109,10 @@ pub extern "C" fn timing_receive_send<'a>(
     let start = all_send(table(attribute, capacity, priorities), capacity, task);
     in_turn(rounds, start, |s, round| {
         let received = s.prcv_dtq(task, ID);
+        *s = received.state;
         let next = released_task(received.released);
-        let sent = received.state.snd_dtq(next, ID, round);
-        (sent.state, received.word.wrapping_add(next as u32))
+        *s = s.snd_dtq(next, ID, round).state;
+        received.word.wrapping_add(next as u32)
     })
 }
 

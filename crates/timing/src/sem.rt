@@ -8,8 +8,10 @@ use bench_table::closed;
 pub extern "C" fn timing_signal_poll(pairs: u32, task: i32, id: i32) -> u32 {
     in_turn(pairs, closed(), |s, _| {
         let signalled = s.sig_sem(task, id);
-        let polled = signalled.state.pol_sem(task, id);
-        (polled.state, good(signalled.outcome) + good(polled.outcome))
+        *s = signalled.state;
+        let polled = s.pol_sem(task, id);
+        *s = polled.state;
+        good(signalled.outcome) + good(polled.outcome)
     })
 }
 
@@ -18,9 +20,10 @@ pub extern "C" fn timing_signal_poll(pairs: u32, task: i32, id: i32) -> u32 {
 #[unsafe(no_mangle)]
 pub extern "C" fn timing_wait_signal(pairs: u32, waiter: i32, task: i32, id: i32) -> u32 {
     in_turn(pairs, closed(), |s, round| {
-        let waiting = s.wai_sem(waiter, id).state;
-        let signalled = waiting.sig_sem(if round == 0 { 0 } else { task }, id);
-        (signalled.state, u32::from(signalled.released.task != 0))
+        *s = s.wai_sem(waiter, id).state;
+        let signalled = s.sig_sem(if round == 0 { 0 } else { task }, id);
+        *s = signalled.state;
+        u32::from(signalled.released.task != 0)
     })
 }
 
@@ -29,7 +32,9 @@ pub extern "C" fn timing_wait_signal(pairs: u32, waiter: i32, task: i32, id: i32
 pub extern "C" fn timing_refer_set_semaphore(pairs: u32, task: i32, id: i32) -> u32 {
     in_turn(pairs, closed(), |s, _| {
         let told = s.ref_sem(task, id);
+        *s = told.state;
         let info = told.info;
-        (told.state.sac_sem(task, id, info.vector).state, info.amount)
+        *s = s.sac_sem(task, id, info.vector).state;
+        info.amount
     })
 }

@@ -8,7 +8,9 @@ use bench_table::closed;
 pub extern "C" fn timing_enter_leave(pairs: u32, task: i32) -> u32 {
     in_turn(pairs, closed(), |s, _| {
         let entered = s.cal_svc(task);
-        let left = entered.state.ret_svc(task);
-        (left.state, good(entered.outcome) + good(left.outcome))
+        *s = entered.state;
+        let left = s.ret_svc(task);
+        *s = left.state;
+        good(entered.outcome) + good(left.outcome)
     })
 }
