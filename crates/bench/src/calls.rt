@@ -92,11 +92,11 @@ impl fmt::Display for Call {
     }
 }
 
-// A task's level.
-fn level(s: State, task: i32) -> u8
+// A task's level, at the end of a line.
+fn tell_level(rt: &impl Print, s: State, task: i32) -> io::Result<()>
     requires { Valid s }
 {
-    s.level(ordinal(task, MAX_TASKS))
+    println!(rt; ", level {}", s.level(ordinal(task, MAX_TASKS)))
 }
 
 // A call with its line; a refer's reply is the code alone, and then comes what it tells.
@@ -110,12 +110,10 @@ fn make(rt: &impl Print, s: State, call: Call) -> io::Result<State>
     match call {
         Call::RefSem(_, _) => say::semaphore(rt, answer.info)?,
         Call::RefDtq(_, _) => say::queue(rt, answer.info)?,
-        Call::CalSvc(task) | Call::RetSvc(task) => {
-            print!(rt; ", level {}", level(answer.state, task))?
-        }
-        _ => {}
+        Call::CalSvc(task) => tell_level(rt, answer.state, task)?,
+        Call::RetSvc(task) => tell_level(rt, answer.state, task)?,
+        _ => rt.println("")?,
     }
-    rt.println("")?;
     Ok(answer.state)
 }
 
@@ -158,9 +156,7 @@ pub fn many(rt: &impl Print, mut s: State, task: i32, call: Call, times: u32) ->
             count = count.wrapping_add(1);
         }
     }
-    println!(rt;
-        "  {call} {times} times: E_OK {count} times, level {}",
-        level(s, task)
-    )?;
+    print!(rt; "  {call} {times} times: E_OK {count} times")?;
+    tell_level(rt, s, task)?;
     Ok(s)
 }

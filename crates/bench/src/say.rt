@@ -29,9 +29,9 @@ pub fn reply(rt: &impl Print, answer: &Answer) -> io::Result<()> {
     Ok(())
 }
 
-// What a refer tells of a semaphore.
+// What a refer tells of a semaphore, at the end of its line.
 pub fn semaphore(rt: &impl Print, info: Info) -> io::Result<()> {
-    print!(rt;
+    println!(rt;
         ", first waiter {}, count {}, vector {}",
         info.first,
         info.amount,
@@ -41,7 +41,7 @@ pub fn semaphore(rt: &impl Print, info: Info) -> io::Result<()> {
 
 // What a refer tells of a queue.
 pub fn queue(rt: &impl Print, info: Info) -> io::Result<()> {
-    print!(rt;
+    println!(rt;
         ", first sender {}, first receiver {}, words {}, vector {}",
         info.first,
         info.second,
