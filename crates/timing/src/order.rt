@@ -3,7 +3,7 @@
 ghost use Rattle.kernel.specs.Valid.{Valid};
 
 use crate::count::released_task;
-use crate::rounds::{each_anew, in_turn};
+use crate::rounds::each_anew;
 use crate::table::REGION_SIZE;
 use access::vector::Choice;
 use dataqueue::entry::QueueEntry;
@@ -87,14 +87,16 @@ pub extern "C" fn timing_signal_wait<'a>(
     task: i32,
     priorities: &'a [u32],
 ) -> u32 {
-    let start = all_wait(table(attribute, 0, priorities));
-    in_turn(rounds, start, |s, _| {
+    let mut s = all_wait(table(attribute, 0, priorities));
+    let mut sum: u32 = 0;
+    for _ in 0..rounds {
         let signalled = s.sig_sem(task, ID);
-        *s = signalled.state;
+        s = signalled.state;
         let next = released_task(signalled.released);
-        *s = s.wai_sem(next, ID).state;
-        next as u32
-    })
+        s = s.wai_sem(next, ID).state;
+        sum = sum.wrapping_add(next as u32);
+    }
+    sum
 }
 
 // A task receives, and who is released sends again; the sum of the words received and the numbers released.
@@ -106,14 +108,16 @@ pub extern "C" fn timing_receive_send<'a>(
     task: i32,
     priorities: &'a [u32],
 ) -> u32 {
-    let start = all_send(table(attribute, capacity, priorities), capacity, task);
-    in_turn(rounds, start, |s, round| {
+    let mut s = all_send(table(attribute, capacity, priorities), capacity, task);
+    let mut sum: u32 = 0;
+    for round in 0..rounds {
         let received = s.prcv_dtq(task, ID);
-        *s = received.state;
+        s = received.state;
         let next = released_task(received.released);
-        *s = s.snd_dtq(next, ID, round).state;
-        received.word.wrapping_add(next as u32)
-    })
+        s = s.snd_dtq(next, ID, round).state;
+        sum = sum.wrapping_add(received.word).wrapping_add(next as u32);
+    }
+    sum
 }
 
 // One signal from the same state in every round; the sum of the numbers released.

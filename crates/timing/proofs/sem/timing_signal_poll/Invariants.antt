@@ -1,0 +1,6 @@
+-- `sem::timing_signal_poll` is safe and ends: the state stays valid. Assumes nothing.
+use Rattle.kernel.specs.Valid.{Valid}
+use Rattle.timing.proofs.sem.timing_signal_poll.Given as goal
+
+abbrev pub invariant-loop : goal.invariant-loop
+invariant-loop l = Valid l.s

@@ -1,0 +1,6 @@
+-- `sem::timing_wait_signal` is safe and ends: the state stays valid. Assumes nothing.
+use Rattle.kernel.specs.Valid.{Valid}
+use Rattle.timing.proofs.sem.timing_wait_signal.Given as goal
+
+abbrev pub invariant-loop-round : goal.invariant-loop-round
+invariant-loop-round l = Valid l.s
