@@ -1,210 +1,162 @@
 // The calls on a closed table, each with its line.
-ghost use Rattle.std.specs.Prelude.{◌≤◌};
+ghost use Rattle.std.specs.Prelude.{IfOk};
 ghost use Rattle.kernel.specs.Valid.{Valid};
 
-use crate::names;
-use crate::say::{patterns, say, say_level, say_queue, say_semaphore};
-use access::vector::Vector;
+use crate::names::{Listed, Patterns, vector};
+use crate::say;
+use access::domain::ordinal;
 use itron::code::E_OK;
-use kernel::state::State;
-use model::svc::ExtendedCall;
-use model::{Outcome, Request};
-use text::print::{address, named, signed, text};
+use itron::limit::MAX_TASKS;
+use kernel::state::{Answer, State};
+use model::Outcome;
+use std::{fmt, io};
 
-fn label(task: i32, does: &[u8], id: i32) {
-    text(b"\n  task ");
-    signed(task);
-    text(does);
-    signed(id);
+// A call by its operation: the task, the number of its object, and a word or the patterns of a vector.
+#[derive(Clone, Copy)]
+pub enum Call {
+    SigSem(i32, i32),
+    PolSem(i32, i32),
+    WaiSem(i32, i32),
+    RefSem(i32, i32),
+    SacSem(i32, i32, Patterns),
+    PsndDtq(i32, i32, u32),
+    SndDtq(i32, i32, u32),
+    FsndDtq(i32, i32, u32),
+    PrcvDtq(i32, i32),
+    RcvDtq(i32, i32),
+    RefDtq(i32, i32),
+    SacDtq(i32, i32, Patterns),
+    CalSvc(i32),
+    RetSvc(i32),
 }
 
-fn label_level(task: i32, does: &[u8]) {
-    text(b"\n  task ");
-    signed(task);
-    text(does);
-}
-
-fn label_word(task: i32, does: &[u8], id: i32, word: u32) {
-    label(task, does, id);
-    named(b" the word ", word as u64);
-}
-
-fn label_vector(task: i32, does: &[u8], id: i32, vector: Vector) {
-    label(task, does, id);
-    patterns(b" to", vector);
-}
-
-fn label_area(domain: i32, base: u32, size: u32, wishes: u32) {
-    text(b"\n  domain ");
-    signed(domain);
-    text(b" asks to ");
-    names::wish(wishes);
-    address(b" at ", base);
-    named(b", size ", size as u64);
-}
-
-pub fn sig_sem(s: State, task: i32, id: i32) -> State
-    requires { Valid s }
-    ensures { Valid result }
-{
-    label(task, b" signals semaphore ", id);
-    say(s.sig_sem(task, id))
-}
-
-pub fn pol_sem(s: State, task: i32, id: i32) -> State
-    requires { Valid s }
-    ensures { Valid result }
-{
-    label(task, b" polls semaphore ", id);
-    say(s.pol_sem(task, id))
-}
-
-pub fn wai_sem(s: State, task: i32, id: i32) -> State
-    requires { Valid s }
-    ensures { Valid result }
-{
-    label(task, b" waits for semaphore ", id);
-    say(s.wai_sem(task, id))
-}
-
-pub fn ref_sem(s: State, task: i32, id: i32) -> State
-    requires { Valid s }
-    ensures { Valid result }
-{
-    label(task, b" refers to semaphore ", id);
-    say_semaphore(s.ref_sem(task, id))
-}
-
-pub fn sac_sem(s: State, task: i32, id: i32, vector: Vector) -> State
-    requires { Valid s }
-    ensures { Valid result }
-{
-    label_vector(task, b" sets the vector of semaphore ", id, vector);
-    say(s.sac_sem(task, id, vector))
-}
-
-pub fn psnd_dtq(s: State, task: i32, id: i32, word: u32) -> State
-    requires { Valid s }
-    ensures { Valid result }
-{
-    label_word(task, b" poll-sends to queue ", id, word);
-    say(s.psnd_dtq(task, id, word))
-}
-
-pub fn snd_dtq(s: State, task: i32, id: i32, word: u32) -> State
-    requires { Valid s }
-    ensures { Valid result }
-{
-    label_word(task, b" sends to queue ", id, word);
-    say(s.snd_dtq(task, id, word))
-}
-
-pub fn fsnd_dtq(s: State, task: i32, id: i32, word: u32) -> State
-    requires { Valid s }
-    ensures { Valid result }
-{
-    label_word(task, b" sends by force to queue ", id, word);
-    say(s.fsnd_dtq(task, id, word))
-}
-
-pub fn prcv_dtq(s: State, task: i32, id: i32) -> State
-    requires { Valid s }
-    ensures { Valid result }
-{
-    label(task, b" poll-receives from queue ", id);
-    say(s.prcv_dtq(task, id))
-}
-
-pub fn rcv_dtq(s: State, task: i32, id: i32) -> State
-    requires { Valid s }
-    ensures { Valid result }
-{
-    label(task, b" receives from queue ", id);
-    say(s.rcv_dtq(task, id))
-}
-
-pub fn ref_dtq(s: State, task: i32, id: i32) -> State
-    requires { Valid s }
-    ensures { Valid result }
-{
-    label(task, b" refers to queue ", id);
-    say_queue(s.ref_dtq(task, id))
-}
-
-pub fn sac_dtq(s: State, task: i32, id: i32, vector: Vector) -> State
-    requires { Valid s }
-    ensures { Valid result }
-{
-    label_vector(task, b" sets the vector of queue ", id, vector);
-    say(s.sac_dtq(task, id, vector))
-}
-
-// The memory verdict.
-pub fn prb_mem(s: State, domain: i32, base: u32, size: u32, wishes: u32)
-    requires { Valid s }
-{
-    label_area(domain, base, size, wishes);
-    names::code(s.prb_mem(domain, base, size, wishes));
-}
-
-pub fn cal_svc(s: State, task: i32) -> State
-    requires { Valid s }
-    ensures { Valid result }
-{
-    label_level(task, b" enters a service call");
-    say_level(say(s.cal_svc(task)), task)
-}
-
-pub fn ret_svc(s: State, task: i32) -> State
-    requires { Valid s }
-    ensures { Valid result }
-{
-    label_level(task, b" leaves a service call");
-    say_level(say(s.ret_svc(task)), task)
-}
-
-// 1 for a call that answered E_OK.
-fn good(outcome: Outcome) -> u32
-    ensures { result ≤ 1 }
-{
-    match outcome {
-        Outcome::Code(code) => if code == E_OK { 1 } else { 0 },
-        Outcome::Waiting => 0,
+impl Call {
+    fn made(self, s: State) -> Answer
+        requires { Valid s }
+        ensures { Valid result.state }
+    {
+        match self {
+            Call::SigSem(task, id) => s.sig_sem(task, id),
+            Call::PolSem(task, id) => s.pol_sem(task, id),
+            Call::WaiSem(task, id) => s.wai_sem(task, id),
+            Call::RefSem(task, id) => s.ref_sem(task, id),
+            Call::SacSem(task, id, patterns) => s.sac_sem(task, id, vector(patterns)),
+            Call::PsndDtq(task, id, word) => s.psnd_dtq(task, id, word),
+            Call::SndDtq(task, id, word) => s.snd_dtq(task, id, word),
+            Call::FsndDtq(task, id, word) => s.fsnd_dtq(task, id, word),
+            Call::PrcvDtq(task, id) => s.prcv_dtq(task, id),
+            Call::RcvDtq(task, id) => s.rcv_dtq(task, id),
+            Call::RefDtq(task, id) => s.ref_dtq(task, id),
+            Call::SacDtq(task, id, patterns) => s.sac_dtq(task, id, vector(patterns)),
+            Call::CalSvc(task) => s.cal_svc(task),
+            Call::RetSvc(task) => s.ret_svc(task),
+        }
     }
 }
 
-// The rest of a line: the same call many times.
-fn many(mut s: State, task: i32, asked: ExtendedCall, times: u32) -> State
+impl fmt::Display for Call {
+    fn fmt<W: fmt::Write>(&self, f: &mut fmt::Formatter<W>) -> fmt::Result {
+        match *self {
+            Call::SigSem(task, id) => write!(f, "task {task} signals semaphore {id}"),
+            Call::PolSem(task, id) => write!(f, "task {task} polls semaphore {id}"),
+            Call::WaiSem(task, id) => write!(f, "task {task} waits for semaphore {id}"),
+            Call::RefSem(task, id) => write!(f, "task {task} refers to semaphore {id}"),
+            Call::SacSem(task, id, patterns) => write!(
+                f,
+                "task {task} sets the vector of semaphore {id} to {}",
+                Listed(vector(patterns))
+            ),
+            Call::PsndDtq(task, id, word) => {
+                write!(f, "task {task} poll-sends to queue {id} the word {word}")
+            }
+            Call::SndDtq(task, id, word) => {
+                write!(f, "task {task} sends to queue {id} the word {word}")
+            }
+            Call::FsndDtq(task, id, word) => {
+                write!(
+                    f,
+                    "task {task} sends by force to queue {id} the word {word}"
+                )
+            }
+            Call::PrcvDtq(task, id) => write!(f, "task {task} poll-receives from queue {id}"),
+            Call::RcvDtq(task, id) => write!(f, "task {task} receives from queue {id}"),
+            Call::RefDtq(task, id) => write!(f, "task {task} refers to queue {id}"),
+            Call::SacDtq(task, id, patterns) => write!(
+                f,
+                "task {task} sets the vector of queue {id} to {}",
+                Listed(vector(patterns))
+            ),
+            Call::CalSvc(task) => write!(f, "task {task} enters a service call"),
+            Call::RetSvc(task) => write!(f, "task {task} leaves a service call"),
+        }
+    }
+}
+
+// A task's level, at the end of a line.
+fn tell_level(rt: &impl Print, s: State, task: i32) -> io::Result<()>
     requires { Valid s }
-    ensures { Valid result }
+{
+    println!(rt; ", level {}", s.level(ordinal(task, MAX_TASKS)))
+}
+
+// A call with its line; a refer's reply is the code alone, and then comes what it tells.
+fn make(rt: &impl Print, s: State, call: Call) -> io::Result<State>
+    requires { Valid s }
+    ensures { IfOk result Valid }
+{
+    print!(rt; "  {call}")?;
+    let answer = call.made(s);
+    say::reply(rt, &answer)?;
+    match call {
+        Call::RefSem(_, _) => say::semaphore(rt, answer.info)?,
+        Call::RefDtq(_, _) => say::queue(rt, answer.info)?,
+        Call::CalSvc(task) => tell_level(rt, answer.state, task)?,
+        Call::RetSvc(task) => tell_level(rt, answer.state, task)?,
+        _ => rt.println("")?,
+    }
+    Ok(answer.state)
+}
+
+// These calls, one after the other.
+pub fn play(rt: &impl Print, mut s: State, calls: &[Call]) -> io::Result<State>
+    requires { Valid s }
+    ensures { IfOk result Valid }
+{
+    for call in calls {
+        s = make(rt, s, *call)?;
+    }
+    Ok(s)
+}
+
+// Calls under their heading.
+#[derive(Clone, Copy)]
+pub struct Section(pub &'static str, pub &'static [Call]);
+
+// Each section begins with the same table.
+pub fn sections(rt: &impl Print, table: State, sections: &[Section]) -> io::Result<()>
+    requires { Valid table }
+{
+    for Section(title, calls) in sections {
+        say::heading(rt, title)?;
+        play(rt, table, calls)?;
+    }
+    Ok(())
+}
+
+// Many calls of a task on its level, in one line.
+pub fn many(rt: &impl Print, mut s: State, task: i32, call: Call, times: u32) -> io::Result<State>
+    requires { Valid s }
+    ensures { IfOk result Valid }
 {
     let mut count: u32 = 0;
-    let mut i: u32 = 0;
-    while i < times {
-        let a = s.call(task, Request::Extended(asked));
-        s = a.state;
-        let outcome = a.outcome;
-        count += good(outcome);
-        i += 1;
+    for _ in 0..times {
+        let answer = call.made(s);
+        s = answer.state;
+        if let Outcome::Code(E_OK) = answer.outcome {
+            count = count.wrapping_add(1);
+        }
     }
-    named(b" ", times as u64);
-    named(b" times: E_OK ", count as u64);
-    text(b" times");
-    say_level(s, task)
-}
-
-pub fn climb(s: State, task: i32, times: u32) -> State
-    requires { Valid s }
-    ensures { Valid result }
-{
-    label_level(task, b" enters a service call");
-    many(s, task, ExtendedCall::Enter, times)
-}
-
-pub fn descend(s: State, task: i32, times: u32) -> State
-    requires { Valid s }
-    ensures { Valid result }
-{
-    label_level(task, b" leaves a service call");
-    many(s, task, ExtendedCall::Leave, times)
+    print!(rt; "  {call} {times} times: E_OK {count} times")?;
+    tell_level(rt, s, task)?;
+    Ok(s)
 }

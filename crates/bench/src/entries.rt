@@ -1,146 +1,141 @@
 // Building a table, each step with its line.
+ghost use Rattle.std.specs.Prelude.{IfOk};
 ghost use Rattle.kernel.specs.Valid.{Valid};
 
-use crate::say::{patterns, say_entered};
-use access::vector::{Choice, Vector};
+use crate::names::{Code, Listed, Patterns, vector};
+use crate::table::PAGE;
+use access::vector::Choice;
 use dataqueue::entry::QueueEntry;
-use kernel::state::State;
+use kernel::state::{Entered, State};
 use regions::entry::RegionEntry;
 use semaphore::entry::SemaphoreEntry;
-use text::print::{address, named, signed, text};
+use std::{fmt, io};
 
-pub fn vector(normal1: u32, normal2: u32, management: u32, reference: u32) -> Vector {
-    Vector {
-        normal1,
-        normal2,
-        management,
-        reference,
+// An entry, by its domain and what else it has in document 01's order; a vector is given or the default.
+#[derive(Clone, Copy)]
+pub enum Entry {
+    Task(i32, u32),
+    Semaphore(i32, u32, u32, u32, Option<Patterns>),
+    Queue(i32, u32, u32, Option<Patterns>),
+    Region(i32, u32, u32, u32, Option<Patterns>),
+}
+
+fn choice(given: Option<Patterns>) -> Choice {
+    match given {
+        Some(patterns) => Choice::Given(vector(patterns)),
+        None => Choice::Default,
     }
 }
 
-// What an entry says of its vector, given.
-pub fn given(normal1: u32, normal2: u32, management: u32, reference: u32) -> Choice {
-    Choice::Given(vector(normal1, normal2, management, reference))
-}
-
-fn choice(vector: Choice) {
-    match vector {
-        Choice::Default => text(b", default vector"),
-        Choice::Given(v) => patterns(b", vector", v),
+impl Entry {
+    fn made(self, s: State) -> Entered
+        requires { Valid s }
+        ensures { Valid result.state }
+    {
+        match self {
+            Entry::Task(domain, priority) => s.add_task(domain, priority),
+            Entry::Semaphore(domain, attribute, start, max, given) => {
+                s.add_semaphore(SemaphoreEntry {
+                    domain,
+                    attribute,
+                    start,
+                    max,
+                    vector: choice(given),
+                })
+            }
+            Entry::Queue(domain, attribute, capacity, given) => s.add_queue(QueueEntry {
+                domain,
+                attribute,
+                capacity,
+                vector: choice(given),
+            }),
+            Entry::Region(domain, attribute, base, size, given) => s.add_region(RegionEntry {
+                domain,
+                attribute,
+                base,
+                size,
+                vector: choice(given),
+            }),
+        }
     }
 }
 
-fn label(kind: &[u8], domain: i32) {
-    text(b"\n  enter ");
-    text(kind);
-    text(b" in domain ");
-    signed(domain);
+// What an entry says of its vector.
+#[derive(Clone, Copy)]
+struct Given(Option<Patterns>);
+
+impl fmt::Display for Given {
+    fn fmt<W: fmt::Write>(&self, f: &mut fmt::Formatter<W>) -> fmt::Result {
+        match self.0 {
+            Some(patterns) => write!(f, "vector {}", Listed(vector(patterns))),
+            None => f.write_str("default vector"),
+        }
+    }
 }
 
-fn label_task(domain: i32, priority: u32) {
-    label(b"task", domain);
-    named(b", priority ", priority as u64);
+impl fmt::Display for Entry {
+    fn fmt<W: fmt::Write>(&self, f: &mut fmt::Formatter<W>) -> fmt::Result {
+        match *self {
+            Entry::Task(domain, priority) => {
+                write!(f, "task in domain {domain}, priority {priority}")
+            }
+            Entry::Semaphore(domain, attribute, start, max, given) => write!(
+                f,
+                "semaphore in domain {domain}, attribute {attribute}, start {start}, max {max}, {}",
+                Given(given)
+            ),
+            Entry::Queue(domain, attribute, capacity, given) => write!(
+                f,
+                "queue in domain {domain}, attribute {attribute}, capacity {capacity}, {}",
+                Given(given)
+            ),
+            Entry::Region(domain, attribute, base, size, given) => write!(
+                f,
+                "region in domain {domain}, attribute {attribute}, base 0x{base:x}, size {size}, {}",
+                Given(given)
+            ),
+        }
+    }
 }
 
-fn label_semaphore(domain: i32, attribute: u32, start: u32, max: u32, vector: Choice) {
-    label(b"semaphore", domain);
-    named(b", attribute ", attribute as u64);
-    named(b", start ", start as u64);
-    named(b", max ", max as u64);
-    choice(vector);
-}
-
-fn label_queue(domain: i32, attribute: u32, capacity: u32, vector: Choice) {
-    label(b"queue", domain);
-    named(b", attribute ", attribute as u64);
-    named(b", capacity ", capacity as u64);
-    choice(vector);
-}
-
-fn label_region(domain: i32, attribute: u32, base: u32, size: u32, vector: Choice) {
-    label(b"region", domain);
-    named(b", attribute ", attribute as u64);
-    address(b", base ", base);
-    named(b", size ", size as u64);
-    choice(vector);
-}
-
-pub fn fresh(n: i32, unit: u32) -> State
-    ensures { Valid result }
+// The rest of a line.
+fn entered(rt: &impl Print, made: Entered) -> io::Result<State>
+    requires { Valid made.state }
+    ensures { IfOk result Valid }
 {
-    text(b"\n  fresh table, n = ");
-    signed(n);
-    named(b", unit ", unit as u64);
-    say_entered(State::fresh(n, unit))
+    println!(rt; ": {}", Code(made.code))?;
+    Ok(made.state)
 }
 
-pub fn add_task(s: State, domain: i32, priority: u32) -> State
+pub fn fresh(rt: &impl Print, n: i32, unit: u32) -> io::Result<State>
+    ensures { IfOk result Valid }
+{
+    print!(rt; "  fresh table, n = {n}, unit {unit}")?;
+    entered(rt, State::fresh(n, unit))
+}
+
+pub fn enter(rt: &impl Print, mut s: State, entries: &[Entry]) -> io::Result<State>
     requires { Valid s }
-    ensures { Valid result }
+    ensures { IfOk result Valid }
 {
-    label_task(domain, priority);
-    say_entered(s.add_task(domain, priority))
+    for entry in entries {
+        print!(rt; "  enter {entry}")?;
+        s = entered(rt, entry.made(s))?;
+    }
+    Ok(s)
 }
 
-pub fn add_semaphore(
-    s: State,
-    domain: i32,
-    attribute: u32,
-    start: u32,
-    max: u32,
-    vector: Choice,
-) -> State
-    requires { Valid s }
-    ensures { Valid result }
+// An open table of two domains and of pages.
+pub fn table(rt: &impl Print, entries: &[Entry]) -> io::Result<State>
+    ensures { IfOk result Valid }
 {
-    label_semaphore(domain, attribute, start, max, vector);
-    say_entered(s.add_semaphore(SemaphoreEntry {
-        domain,
-        attribute,
-        start,
-        max,
-        vector,
-    }))
+    enter(rt, fresh(rt, 2, PAGE)?, entries)
 }
 
-pub fn add_queue(s: State, domain: i32, attribute: u32, capacity: u32, vector: Choice) -> State
+pub fn close(rt: &impl Print, s: State) -> io::Result<State>
     requires { Valid s }
-    ensures { Valid result }
+    ensures { IfOk result Valid }
 {
-    label_queue(domain, attribute, capacity, vector);
-    say_entered(s.add_queue(QueueEntry {
-        domain,
-        attribute,
-        capacity,
-        vector,
-    }))
-}
-
-pub fn add_region(
-    s: State,
-    domain: i32,
-    attribute: u32,
-    base: u32,
-    size: u32,
-    vector: Choice,
-) -> State
-    requires { Valid s }
-    ensures { Valid result }
-{
-    label_region(domain, attribute, base, size, vector);
-    say_entered(s.add_region(RegionEntry {
-        domain,
-        attribute,
-        base,
-        size,
-        vector,
-    }))
-}
-
-pub fn close(s: State) -> State
-    requires { Valid s }
-    ensures { Valid result }
-{
-    text(b"\n  close the table");
-    say_entered(s.close())
+    rt.print("  close the table")?;
+    entered(rt, s.close())
 }

@@ -2,6 +2,7 @@
 // and bytes handed out (document 02, T-05, T-10, T-03, T-06, T-09 and T-13), through the kernel's public operations, a line for each step.
 #![tactic(auto)]
 
+pub mod areas;
 pub mod calls;
 pub mod chains;
 pub mod entries;
@@ -16,24 +17,26 @@ pub mod slips;
 pub mod table;
 pub mod units;
 
-use text::print::text;
+use areas::ask;
+use calls::sections;
+use say::heading;
+use std::io;
 
-fn main() {
-    text(
-        b"Each step with the kernel's answer; a call's word and released task are left out where there is none",
-    );
-    let table = table::closed();
-    runs::s(table);
-    runs::q(table);
-    table::limits();
-    runs::numbers(table);
-    runs::regions(table);
-    forced::all(table);
-    priority::all();
-    service::all(table);
-    units::all();
-    chains::all();
-    handed::all();
-    slips::all(table);
-    text(b"\n");
+fn main(rt: HostRuntime) -> io::Result<()> {
+    rt.println(
+        "Each step with the kernel's answer; a call's word and released task are left out where there is none",
+    )?;
+    let table = table::closed(&rt)?;
+    sections(&rt, table, &runs::STARRED)?;
+    table::limits(&rt)?;
+    sections(&rt, table, &runs::NUMBERS)?;
+    heading(&rt, "Regions")?;
+    ask(&rt, table, &runs::REGIONS)?;
+    forced::all(&rt, table)?;
+    priority::all(&rt)?;
+    service::all(&rt, table)?;
+    units::all(&rt)?;
+    chains::all(&rt)?;
+    handed::all(&rt)?;
+    sections(&rt, table, &slips::SECTIONS)
 }

@@ -1,105 +1,110 @@
 // Extended service calls (document 02, T-03): how deep a task can go, as what it calls inside one, and what its level does not change.
 ghost use Rattle.kernel.specs.Valid.{Valid};
 
-use crate::calls::{
-    cal_svc, climb, descend, prb_mem, prcv_dtq, psnd_dtq, rcv_dtq, ref_dtq, ret_svc, sac_dtq,
-    sac_sem, sig_sem, wai_sem,
+use crate::areas::{Area, ask};
+use crate::calls::Call::{
+    CalSvc, PrcvDtq, PsndDtq, RcvDtq, RefDtq, RetSvc, SacDtq, SacSem, SigSem, WaiSem,
 };
-use crate::entries::{add_task, close, fresh, vector};
-use crate::table::PAGE;
-use access::vector::Vector;
+use crate::calls::{Call, Section, many, play, sections};
+use crate::entries::Entry::Task;
+use crate::entries::{close, table};
+use crate::say::heading;
 use kernel::state::State;
 use regions::flag::READ;
-use text::print::heading;
+use std::io;
 
-// Up to 255 and over it, down to 0 and below it.
-fn depth(mut s: State)
-    requires { Valid s }
-{
-    heading(b"Extended service calls: how deep");
-    s = ret_svc(s, 2);
-    s = climb(s, 2, 254);
-    s = cal_svc(s, 2);
-    s = cal_svc(s, 2);
-    s = ret_svc(s, 2);
-    s = cal_svc(s, 2);
-    s = descend(s, 2, 254);
-    s = ret_svc(s, 2);
-    s = ret_svc(s, 2);
-}
+// Most of the way up and down.
+const STEPS: u32 = 254;
+
+const AT_THE_TOP: [Call; 4] = [CalSvc(2), CalSvc(2), RetSvc(2), CalSvc(2)];
+
+const AT_THE_BOTTOM: [Call; 2] = [RetSvc(2), RetSvc(2)];
 
 // Task 2 is of domain 2, which queue 1 and the management of semaphore 1 deny; another task's level is no help.
-fn running_domain(mut s: State)
-    requires { Valid s }
-{
-    heading(b"Extended service calls: the running domain");
-    s = psnd_dtq(s, 2, 1, 700);
-    s = cal_svc(s, 2);
-    s = psnd_dtq(s, 2, 1, 700);
-    s = ref_dtq(s, 2, 1);
-    s = sac_sem(s, 2, 1, vector(2, 2, 0, 3));
-    s = ret_svc(s, 2);
-    s = psnd_dtq(s, 2, 1, 701);
-    s = prcv_dtq(s, 2, 1);
-    s = cal_svc(s, 1);
-    s = psnd_dtq(s, 2, 1, 701);
-}
+const RUNNING_DOMAIN: [Call; 10] = [
+    PsndDtq(2, 1, 700),
+    CalSvc(2),
+    PsndDtq(2, 1, 700),
+    RefDtq(2, 1),
+    SacSem(2, 1, [2, 2, 0, 3]),
+    RetSvc(2),
+    PsndDtq(2, 1, 701),
+    PrcvDtq(2, 1),
+    CalSvc(1),
+    PsndDtq(2, 1, 701),
+];
 
 // It is judged at its call: a receiver and a semaphore waiter that called inside are served after the vector was narrowed.
-fn waiters(mut s: State)
-    requires { Valid s }
-{
-    heading(b"Extended service calls: a waiter that called inside one");
-    s = cal_svc(s, 2);
-    s = rcv_dtq(s, 2, 1);
-    s = cal_svc(s, 2);
-    s = ret_svc(s, 2);
-    s = sac_dtq(s, 3, 1, Vector::KERNEL);
-    s = psnd_dtq(s, 3, 1, 702);
-    s = ret_svc(s, 2);
-    s = rcv_dtq(s, 2, 1);
-    s = cal_svc(s, 2);
-    s = wai_sem(s, 2, 1);
-    s = wai_sem(s, 2, 1);
-    s = sac_sem(s, 3, 1, Vector::KERNEL);
-    s = sig_sem(s, 3, 1);
-    s = ret_svc(s, 2);
-    s = wai_sem(s, 2, 1);
-}
+const WAITERS: [Call; 15] = [
+    CalSvc(2),
+    RcvDtq(2, 1),
+    CalSvc(2),
+    RetSvc(2),
+    SacDtq(3, 1, [0; 4]),
+    PsndDtq(3, 1, 702),
+    RetSvc(2),
+    RcvDtq(2, 1),
+    CalSvc(2),
+    WaiSem(2, 1),
+    WaiSem(2, 1),
+    SacSem(3, 1, [0; 4]),
+    SigSem(3, 1),
+    RetSvc(2),
+    WaiSem(2, 1),
+];
+
+const SECTIONS: [Section; 2] = [
+    Section(
+        "Extended service calls: the running domain",
+        &RUNNING_DOMAIN,
+    ),
+    Section(
+        "Extended service calls: a waiter that called inside one",
+        &WAITERS,
+    ),
+];
 
 // Task 3 is the kernel's; domain 2 is not the kernel domain because its task is inside.
-fn kernel_and_verdict(mut s: State)
-    requires { Valid s }
-{
-    heading(b"Extended service calls: a kernel task, and the verdict");
-    s = cal_svc(s, 3);
-    s = ret_svc(s, 3);
-    s = ret_svc(s, 3);
-    s = cal_svc(s, 2);
-    prb_mem(s, 2, 0x2000, 1, READ);
-}
+const KERNEL_TASK: [Call; 4] = [CalSvc(3), RetSvc(3), RetSvc(3), CalSvc(2)];
 
 // Only a registered task of a closed table has a level to change.
-fn nobody() {
-    heading(b"Extended service calls: who cannot enter");
-    let mut s = fresh(2, PAGE);
-    s = add_task(s, 1, 1);
-    s = cal_svc(s, 1);
-    s = ret_svc(s, 1);
-    s = close(s);
-    s = cal_svc(s, 0);
-    s = cal_svc(s, -1);
-    s = cal_svc(s, 2);
-    s = ret_svc(s, 2);
-    s = cal_svc(s, 1);
-}
+const OPEN: [Call; 2] = [CalSvc(1), RetSvc(1)];
 
-pub fn all(table: State)
+const CLOSED: [Call; 5] = [CalSvc(0), CalSvc(-1), CalSvc(2), RetSvc(2), CalSvc(1)];
+
+// Up to 255 and over it, down to 0 and below it.
+fn depth(rt: &impl Print, table: State) -> io::Result<()>
     requires { Valid table }
 {
-    depth(table);
-    running_domain(table);
-    waiters(table);
-    kernel_and_verdict(table);
-    nobody();
+    heading(rt, "Extended service calls: how deep")?;
+    let s = play(rt, table, &[RetSvc(2)])?;
+    let s = many(rt, s, 2, CalSvc(2), STEPS)?;
+    let s = play(rt, s, &AT_THE_TOP)?;
+    let s = many(rt, s, 2, RetSvc(2), STEPS)?;
+    play(rt, s, &AT_THE_BOTTOM)?;
+    Ok(())
+}
+
+fn kernel_and_verdict(rt: &impl Print, table: State) -> io::Result<()>
+    requires { Valid table }
+{
+    heading(rt, "Extended service calls: a kernel task, and the verdict")?;
+    let s = play(rt, table, &KERNEL_TASK)?;
+    ask(rt, s, &[Area(2, 0x2000, 1, READ)])
+}
+
+fn nobody(rt: &impl Print) -> io::Result<()> {
+    heading(rt, "Extended service calls: who cannot enter")?;
+    let s = play(rt, table(rt, &[Task(1, 1)])?, &OPEN)?;
+    play(rt, close(rt, s)?, &CLOSED)?;
+    Ok(())
+}
+
+pub fn all(rt: &impl Print, table: State) -> io::Result<()>
+    requires { Valid table }
+{
+    depth(rt, table)?;
+    sections(rt, table, &SECTIONS)?;
+    kernel_and_verdict(rt, table)?;
+    nobody(rt)
 }

@@ -1,22 +1,19 @@
 // Lists of calls as numbers, run on the bench table of document 01; of each answer its code, and what else is not 0.
 #![tactic(auto)]
 
-pub mod list;
+pub mod call;
 pub mod lists;
 pub mod run;
 
-use text::print::text;
+use lists::RUNS;
+use std::io;
 
-fn main() {
-    lists::run_s();
-    lists::run_q();
-    lists::refers();
-    lists::no_calls();
-    lists::large_words();
-    lists::large_numbers();
-    lists::large_patterns();
-    lists::forced_sends();
-    lists::service_calls();
-    lists::short_answers();
-    text(b"\n");
+fn main(rt: HostRuntime) -> io::Result<()> {
+    for (k, run) in RUNS.iter().enumerate() {
+        if k != 0 {
+            rt.println("")?;
+        }
+        run.show(&rt)?;
+    }
+    Ok(())
 }

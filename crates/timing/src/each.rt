@@ -10,13 +10,35 @@ pub(crate) fn forced<'a>(mut s: State, task: i32, ids: &'a [i32]) -> State
     requires { Valid s }
     ensures { Valid result }
 {
-    let count = ids.len();
-    let mut i: usize = 0;
-    while i < count {
-        s = s.fsnd_dtq(task, ids[i], 0).state;
-        i += 1;
+    for id in ids {
+        s = s.fsnd_dtq(task, *id, 0).state;
     }
     s
+}
+
+// Then a call on each of others with the round for a word, a forced send or one without waiting; the number of answers E_OK.
+pub(crate) fn sent<'a, const FORCED: bool>(
+    rounds: u32,
+    start: State,
+    task: i32,
+    ids: &'a [i32],
+) -> u32
+    requires { Valid start }
+{
+    let mut sum: u32 = 0;
+    for round in 0..rounds {
+        let mut s = start;
+        for id in ids {
+            let a = if FORCED {
+                s.fsnd_dtq(task, *id, round)
+            } else {
+                s.psnd_dtq(task, *id, round)
+            };
+            s = a.state;
+            sum = sum.wrapping_add(good(a.outcome));
+        }
+    }
+    sum
 }
 
 // A send to each queue of these; the number of answers E_OK.
@@ -29,23 +51,7 @@ pub extern "C" fn timing_send_each<'a>(
     ids: &'a [i32],
 ) -> u32 {
     let start = forced(eight_queues(capacity), task, before);
-    let count = ids.len();
-    let mut sum: u32 = 0;
-    let mut round: u32 = 0;
-    while round < rounds {
-        let mut s = start;
-        let mut i: usize = 0;
-        while i < count {
-            let id = ids[i];
-            i += 1;
-            let a = s.psnd_dtq(task, id, round);
-            s = a.state;
-            let outcome = a.outcome;
-            sum = good(sum, outcome);
-        }
-        round += 1;
-    }
-    sum
+    sent::<false>(rounds, start, task, ids)
 }
 
 // A forced send to each queue of these; the number of answers E_OK.
@@ -58,21 +64,5 @@ pub extern "C" fn timing_force_each<'a>(
     ids: &'a [i32],
 ) -> u32 {
     let start = forced(eight_queues(capacity), task, before);
-    let count = ids.len();
-    let mut sum: u32 = 0;
-    let mut round: u32 = 0;
-    while round < rounds {
-        let mut s = start;
-        let mut i: usize = 0;
-        while i < count {
-            let id = ids[i];
-            i += 1;
-            let a = s.fsnd_dtq(task, id, round);
-            s = a.state;
-            let outcome = a.outcome;
-            sum = good(sum, outcome);
-        }
-        round += 1;
-    }
-    sum
+    sent::<true>(rounds, start, task, ids)
 }

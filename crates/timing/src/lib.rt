@@ -7,6 +7,7 @@ pub mod dtq;
 pub mod each;
 pub mod mem;
 pub mod order;
+pub mod rounds;
 pub mod sem;
 pub mod svc;
 pub mod table;

@@ -7,17 +7,12 @@ use bench_table::closed;
 pub extern "C" fn timing_enter_leave(pairs: u32, task: i32) -> u32 {
     let mut s = closed();
     let mut count: u32 = 0;
-    let mut i: u32 = 0;
-    while i < pairs {
-        let a = s.cal_svc(task);
-        s = a.state;
-        let b = s.ret_svc(task);
-        s = b.state;
-        let first = a.outcome;
-        let second = b.outcome;
-        count = good(count, first);
-        count = good(count, second);
-        i += 1;
+    for _ in 0..pairs {
+        let entered = s.cal_svc(task);
+        s = entered.state;
+        let left = s.ret_svc(task);
+        s = left.state;
+        count = count.wrapping_add(good(entered.outcome) + good(left.outcome));
     }
     count
 }

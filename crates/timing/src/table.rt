@@ -11,6 +11,8 @@ use regions::entry::RegionEntry;
 
 pub(crate) const REGION_SIZE: u32 = 4096;
 
+const REGIONS: u32 = MAX_REGIONS as u32;
+
 const QUEUES: usize = 8;
 
 // As many regions as there may be, one behind the other from address 0.
@@ -18,20 +20,16 @@ pub fn all_regions() -> State
     ensures { Valid result }
 {
     let mut s = State::fresh(2, REGION_SIZE).state;
-    let mut base: u32 = 0;
-    let mut i: usize = 0;
-    while i < MAX_REGIONS {
+    for k in 0..REGIONS {
         s = s
             .add_region(RegionEntry {
                 domain: KERNEL_DOMAIN,
                 attribute: 0,
-                base,
+                base: k * REGION_SIZE,
                 size: REGION_SIZE,
                 vector: given(1, 1, 0, 1),
             })
             .state;
-        base += REGION_SIZE;
-        i += 1;
     }
     s.close().state
 }
@@ -42,8 +40,7 @@ pub fn eight_queues(capacity: u32) -> State
 {
     let mut s = State::fresh(1, REGION_SIZE).state;
     s = s.add_task(1, 1).state;
-    let mut i: usize = 0;
-    while i < QUEUES {
+    for _ in 0..QUEUES {
         s = s
             .add_queue(QueueEntry {
                 domain: 1,
@@ -52,7 +49,6 @@ pub fn eight_queues(capacity: u32) -> State
                 vector: Choice::Default,
             })
             .state;
-        i += 1;
     }
     s.close().state
 }

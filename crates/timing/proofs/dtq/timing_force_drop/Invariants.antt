@@ -1,10 +1,6 @@
 -- `dtq::timing_force_drop` is safe and ends: the state stays valid. Assumes nothing.
-use Rattle.std.proofs.Common.{◌-◌, ◌≤◌}
 use Rattle.kernel.specs.Valid.{Valid}
 use Rattle.timing.proofs.dtq.timing_force_drop.Given as goal
 
-abbrev pub invariant-loop-i : goal.invariant-loop-i
-invariant-loop-i l = (l.i ≤ l.rounds) × Valid l.s
-
-abbrev pub decreases-loop-i : goal.decreases-loop-i
-decreases-loop-i l = l.rounds - l.i
+abbrev pub invariant-loop-word : goal.invariant-loop-word
+invariant-loop-word l = Valid l.s

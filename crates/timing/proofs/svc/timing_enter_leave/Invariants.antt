@@ -1,10 +1,6 @@
 -- `svc::timing_enter_leave` is safe and ends: the state stays valid. Assumes nothing.
-use Rattle.std.proofs.Common.{◌-◌, ◌≤◌}
 use Rattle.kernel.specs.Valid.{Valid}
 use Rattle.timing.proofs.svc.timing_enter_leave.Given as goal
 
-abbrev pub invariant-loop-i : goal.invariant-loop-i
-invariant-loop-i l = (l.i ≤ l.pairs) × Valid l.s
-
-abbrev pub decreases-loop-i : goal.decreases-loop-i
-decreases-loop-i l = l.pairs - l.i
+abbrev pub invariant-loop : goal.invariant-loop
+invariant-loop l = Valid l.s
