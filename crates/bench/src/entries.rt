@@ -4,7 +4,7 @@ ghost use Rattle.kernel.specs.Valid.{Valid};
 
 use crate::names::{Code, Listed, Patterns, vector};
 use crate::table::PAGE;
-use access::vector::Choice;
+use access::vector::Vector;
 use dataqueue::entry::QueueEntry;
 use kernel::state::{Entered, State};
 use regions::entry::RegionEntry;
@@ -20,10 +20,10 @@ pub enum Entry {
     Region(i32, u32, u32, u32, Option<Patterns>),
 }
 
-fn choice(given: Option<Patterns>) -> Choice {
+fn choice(given: Option<Patterns>) -> Option<Vector> {
     match given {
-        Some(patterns) => Choice::Given(vector(patterns)),
-        None => Choice::Default,
+        Some(patterns) => Some(vector(patterns)),
+        None => None,
     }
 }
 

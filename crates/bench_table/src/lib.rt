@@ -2,14 +2,13 @@
 #![tactic(auto)]
 
 ghost use Rattle.std.specs.Prelude.{◌≡◌, pos, take, drop};
-ghost use Rattle.access.specs.declared.vector.Choice.TheVariants as Choices;
 ghost use Rattle.model.specs.Table.{fresh};
 ghost use Rattle.kernel.specs.View.{view_of};
 ghost use Rattle.kernel.specs.Valid.{Valid};
 ghost use Rattle.laws.specs.Starred.{vector, unit, entries, enter_all, bench};
 
 use access::domain::KERNEL_DOMAIN;
-use access::vector::{Choice, Vector};
+use access::vector::Vector;
 use dataqueue::entry::QueueEntry;
 use kernel::state::State;
 use regions::entry::RegionEntry;
@@ -20,10 +19,10 @@ use semaphore::entry::SemaphoreEntry;
 const UNIT: u32 = 4_096;
 
 // A vector, given to an entry.
-pub fn given(normal1: u32, normal2: u32, management: u32, reference: u32) -> Choice
-    ensures { result ≡ Choices.Given (vector normal1 normal2 management reference) }
+pub fn given(normal1: u32, normal2: u32, management: u32, reference: u32) -> Option<Vector>
+    ensures { result ≡ Some (vector normal1 normal2 management reference) }
 {
-    Choice::Given(Vector {
+    Some(Vector {
         normal1,
         normal2,
         management,

@@ -4,7 +4,7 @@ ghost use Rattle.std.specs.Prelude.{◌≤◌, IfOk};
 use crate::flaw::Flaw;
 use crate::number::{Number, NumberError, read_number};
 use crate::word::{count, word};
-use access::vector::{Choice, Vector};
+use access::vector::Vector;
 
 // The patterns of a vector.
 pub(crate) const PATTERNS: usize = 4;
@@ -88,12 +88,12 @@ impl<'a> Numbers<'a> {
     }
 
     // An entry's vector, which may be left out.
-    pub(crate) fn choice(self, place: usize) -> Result<Choice, Flaw>
+    pub(crate) fn choice(self, place: usize) -> Result<Option<Vector>, Flaw>
         requires { place ≤ 8 }
     {
         if self.given() < place {
-            return Ok(Choice::Default);
+            return Ok(None);
         }
-        Ok(Choice::Given(self.vector(place)?))
+        Ok(Some(self.vector(place)?))
     }
 }

@@ -1,7 +1,6 @@
 // A program of one's own: a queue that is private to domain 1, and a send from each of two domains.
 #![tactic(auto)]
 
-use access::vector::Choice;
 use dataqueue::entry::QueueEntry;
 use itron::limit::MIN_UNIT;
 use kernel::state::State;
@@ -31,7 +30,7 @@ fn main(rt: HostRuntime) -> io::Result<()> {
         domain: 1,
         attribute: 0,
         capacity: 4,
-        vector: Choice::Default,
+        vector: None,
     };
     let gateway = table.add_queue(queue).state.close().state;
     let own = gateway.psnd_dtq(1, 1, 700);

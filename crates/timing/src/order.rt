@@ -5,7 +5,6 @@ ghost use Rattle.kernel.specs.Valid.{Valid};
 use crate::count::released_task;
 use crate::rounds::each_anew;
 use crate::table::REGION_SIZE;
-use access::vector::Choice;
 use dataqueue::entry::QueueEntry;
 use itron::limit::MAX_TASKS;
 use kernel::state::State;
@@ -40,7 +39,7 @@ pub(crate) fn table<'a>(attribute: u32, capacity: u32, priorities: &'a [u32]) ->
             attribute,
             start: 0,
             max: 1,
-            vector: Choice::Default,
+            vector: None,
         })
         .state;
     s = s
@@ -48,7 +47,7 @@ pub(crate) fn table<'a>(attribute: u32, capacity: u32, priorities: &'a [u32]) ->
             domain: DOMAIN,
             attribute,
             capacity,
-            vector: Choice::Default,
+            vector: None,
         })
         .state;
     s.close().state

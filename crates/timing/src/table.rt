@@ -2,7 +2,6 @@
 ghost use Rattle.kernel.specs.Valid.{Valid};
 
 use access::domain::KERNEL_DOMAIN;
-use access::vector::Choice;
 use bench_table::given;
 use dataqueue::entry::QueueEntry;
 use itron::limit::MAX_REGIONS;
@@ -46,7 +45,7 @@ pub fn eight_queues(capacity: u32) -> State
                 domain: 1,
                 attribute: 0,
                 capacity,
-                vector: Choice::Default,
+                vector: None,
             })
             .state;
     }
