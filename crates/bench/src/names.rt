@@ -2,20 +2,7 @@
 use access::vector::Vector;
 use regions::flag::{EXECUTE, READ, WRITE};
 use std::fmt;
-use std::str::from_utf8;
-use text::code::{LONGEST_NAME, put_name};
-
-// A result code.
-#[derive(Clone, Copy)]
-pub struct Code(pub i32);
-
-impl fmt::Display for Code {
-    fn fmt<W: fmt::Write>(&self, f: &mut fmt::Formatter<W>) -> fmt::Result {
-        let mut name = [0; LONGEST_NAME];
-        let len = put_name(&mut name, self.0);
-        f.write_str(from_utf8(&name[..len]).unwrap_or(""))
-    }
-}
+pub use text::code::Code;
 
 // What is wished to be done with an area.
 #[derive(Clone, Copy)]

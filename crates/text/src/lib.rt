@@ -1,5 +1,4 @@
-// What the programs write: the names of result codes; bytes and numbers on standard output.
+// What the programs write: result codes by their names.
 #![tactic(auto)]
 
 pub mod code;
-pub mod print;
