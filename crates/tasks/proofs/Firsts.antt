@@ -5,6 +5,7 @@ use mathlib.Core.Path.{◌≡◌, refl, sym, ap, ◌∙◌, subst}
 use mathlib.Core.Bool.{Bool, true}
 use mathlib.Core.List.{List, [], ◌∷◌, map}
 use lib.ListN.{length, get_or}
+use Rattle.itron.specs.Limits.{max_tasks}
 use Rattle.model.specs.Lists.{index, at, All}
 use Rattle.model.specs.State.{Waiter, Place, no_task as no_entry}
 use Rattle.model.specs.Waits.{stands_at, is_other, waiters_in, standing, first_task, leave}
@@ -108,6 +109,9 @@ module _ {t : Tasks} (h : Held t) (b : Bool) (p : Place) where
   module _ (i : ℕ) (e : suc i ≡ first_task (queue_at t b p)) where
     pub first_low : i < length (entries_of t)
     first_low = let l = nth_low 0 in omega (arith, e, first_task_lem (queue_at t b p))
+
+    pub first_few : i < max_tasks
+    first_few = let l = first_low in let m = h.fit.tasks in omega arith
 
     pub first_found : ◌≡◌ {A = Option First} (Some (record { task = i; word = (waiter_of 0 (get_or t.entries i no_task).wait).word })) (first_of (queue_at t b p))
     unfolding waits_of

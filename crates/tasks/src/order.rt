@@ -1,5 +1,5 @@
 // The order in which those who wait began to.
-ghost use Rattle.std.specs.Prelude.{◌≡◌, ◌≤◌, ◌<◌};
+ghost use Rattle.std.specs.Prelude.{◌≡◌, ◌≤◌, ◌<◌, ◌↔◌, IsTrue};
 ghost use Rattle.itron.specs.Limits.{max_tasks};
 ghost use Rattle.tasks.specs.Orders.{arrivals, order_of, pushed, without};
 
@@ -18,6 +18,13 @@ impl Order {
         entries: [0; MAX_TASKS],
         count: 0,
     };
+
+    // Whether it is nobody.
+    pub(crate) fn is_empty(&self) -> bool
+        ensures { IsTrue result ↔ (self.now.count ≡ 0) }
+    {
+        self.count == 0
+    }
 
     // All of them, the first to come first.
     pub(crate) fn as_slice(&self) -> &[u8]

@@ -46,15 +46,20 @@ pub(crate) fn task_number(task: Option<usize>) -> usize
 
 impl Tasks {
     // The index of the one who waits at a place and came with k ahead of it; none if no more than k do.
-    pub(crate) fn arrived(&self, place: Place, k: usize) -> Option<usize>
-        requires { Held self.now }
-        ensures { task_number result ≡ get_or (map task_in (waiters_in (waits_of self.now) (place_in place))) k 0 }
+    pub(crate) fn arrived(self, place: Place, k: usize) -> Option<usize>
+        requires { Held self }
+        ensures { task_number result ≡ get_or (map task_in (waiters_in (waits_of self) (place_in place))) k 0 }
     {
+        // Measured: spares the copies below where nobody waits; a reference to all tasks copies them in any case.
+        if self.order.is_empty() {
+            return None;
+        }
+        let Tasks { entries, order, .. } = self;
         let mut ahead = k;
-        let order = self.order.as_slice();
-        for &task in order {
+        let arrivals = order.as_slice();
+        for &task in arrivals {
             let task = usize::from(task);
-            if self.entries[task].wait.is_at(place) {
+            if entries[task].wait.is_at(place) {
                 if ahead == 0 {
                     return Some(task);
                 }
@@ -65,15 +70,20 @@ impl Tasks {
     }
 
     // The index of the most urgent who waits at a place, of equals the one who came first; none if nobody does.
-    pub(crate) fn most_urgent(&self, place: Place) -> Option<usize>
-        requires { Held self.now }
-        ensures { task_number result ≡ first_task (standing true (entries_of self.now) (waiters_in (waits_of self.now) (place_in place))) }
+    pub(crate) fn most_urgent(self, place: Place) -> Option<usize>
+        requires { Held self }
+        ensures { task_number result ≡ first_task (standing true (entries_of self) (waiters_in (waits_of self) (place_in place))) }
     {
+        // As in `arrived`.
+        if self.order.is_empty() {
+            return None;
+        }
+        let Tasks { entries, order, .. } = self;
         let mut lead: Option<Lead> = None;
-        let order = self.order.as_slice();
-        for &task in order {
+        let arrivals = order.as_slice();
+        for &task in arrivals {
             let task = usize::from(task);
-            let Task { priority, wait, .. } = self.entries[task];
+            let Task { priority, wait, .. } = entries[task];
             if wait.is_at(place) {
                 lead = Some(Lead { task, priority }.after(lead));
             }
@@ -107,9 +117,9 @@ impl Tasks {
     }
 
     // The index of the first who stands at a place, by priority or as they came; none if nobody does.
-    pub(crate) fn foremost(&self, place: Place, by_priority: bool) -> Option<usize>
-        requires { Held self.now }
-        ensures { task_number result ≡ first_task (standing by_priority (entries_of self.now) (waiters_in (waits_of self.now) (place_in place))) }
+    pub(crate) fn foremost(self, place: Place, by_priority: bool) -> Option<usize>
+        requires { Held self }
+        ensures { task_number result ≡ first_task (standing by_priority (entries_of self) (waiters_in (waits_of self) (place_in place))) }
     {
         if by_priority {
             return self.most_urgent(place);
@@ -123,7 +133,8 @@ impl Tasks {
         ensures { result ≡ first_of (standing by_priority (entries_of self) (waiters_in (waits_of self) (place side (suc object)))) }
     {
         let task = self.foremost(Place { side, object }, by_priority)?;
-        let word = self.entries[task].wait.word();
+        let entries = self.entries;
+        let word = entries[task].wait.word();
         Some(First { task, word })
     }
 

@@ -5,27 +5,23 @@ use Prim.Native.Nat.{ℕ, suc, ◌<◌}
 use Rattle.std.specs.Prelude.{Some}
 use Rattle.itron.specs.Limits.{max_tasks}
 use Rattle.model.specs.State.{place}
-use Rattle.tasks.proofs.Firsts.{first_none, first_found, first_low}
+use Rattle.tasks.proofs.Firsts.{first_none, first_few, first_found}
 use Rattle.tasks.proofs.state.Tasks.first.Goals as goal
-use Rattle.tasks.proofs.state.Tasks.first.Goals.{In_ok-task}
 
 pub returns-in_err-task : goal.returns-in_err-task
 returns-in_err-task c =
     let a = c.args in
     c.from_residual.ensures ∙ first_none c.requires a.by_priority (place a.side (suc a.object)) c.in_err-task.ensures
 
-low : (c : In_ok-task) → c.in_ok-task.task < max_tasks
-low c =
+pub offset_bounds-entries-task : goal.offset_bounds-entries-task
+offset_bounds-entries-task c =
     let a = c.args in
-    let l = first_low c.requires a.by_priority (place a.side (suc a.object)) c.in_ok-task.task c.in_ok-task.ensures in
-    let m = c.requires.fit.tasks in
-    omega arith
+    omega (arith, first_few c.requires a.by_priority (place a.side (suc a.object)) c.in_ok-task.task c.in_ok-task.ensures)
 
-pub offset_bounds-self-task : goal.offset_bounds-self-task
-offset_bounds-self-task c = omega (arith, low c)
-
-pub bounds-self-task : goal.bounds-self-task
-bounds-self-task c = low c
+pub bounds-entries-task : goal.bounds-entries-task
+bounds-entries-task c =
+    let a = c.args in
+    first_few c.requires a.by_priority (place a.side (suc a.object)) c.in_ok-task.task c.in_ok-task.ensures
 
 pub returns : goal.returns
 returns c =

@@ -6,7 +6,7 @@ use Rattle.tasks.specs.Leads.{lead, lead_of, leader}
 use Rattle.tasks.specs.Ends.{task_number}
 use native.Mathlib.Omega.{arith}
 use mathlib.Core.Path.{◌≡◌, sym, ap, ◌∙◌}
-use lib.ListN.{length, get_or}
+use lib.ListN.{take, length, get_or}
 use Rattle.tasks.specs.View.{waits_of}
 use Rattle.tasks.specs.Places.{place_in}
 use Rattle.tasks.proofs.Back.{index_low}
@@ -18,18 +18,26 @@ use Rattle.tasks.proofs.state.Tasks.most_urgent.Goals as goal
 use Rattle.tasks.proofs.state.Tasks.most_urgent.Goals.{then-is_at, else-is_at, After-map}
 use Rattle.std.proofs.lemmas.Grind.{common_steps}
 
-pub bounds-self-task : goal.bounds-self-task
-bounds-self-task c = omega (arith, index_low c.requires _ c.as_slice-order.ensures _ c.loop-task-test.true)
+-- nobody waits
+pub returns-then-is_empty : goal.returns-then-is_empty
+unfolding waits_of
+returns-then-is_empty c =
+    let a = c.args in
+    let es = a.self.entries in
+    sym (first_ranked c.requires (place_in a.place) ∙ ap (λ (m : ℕ). first_by (rank_in es) (numbers_from es (place_in a.place) (take m a.self.order.entries) 0)) (c.is_empty.ensures.0 c.if-is_empty.true))
 
-pub bounds-self-task-in-loop-task : goal.bounds-self-task-in-loop-task
-bounds-self-task-in-loop-task c = omega (arith, index_low c.requires _ c.as_slice-order.ensures _ c.loop-task-test.true)
+pub bounds-entries-task : goal.bounds-entries-task
+bounds-entries-task c = omega (arith, index_low c.requires _ c.as_slice-arrivals.ensures _ c.loop-task-test.true)
+
+pub bounds-entries-task-in-loop-task : goal.bounds-entries-task-in-loop-task
+bounds-entries-task-in-loop-task c = omega (arith, index_low c.requires _ c.as_slice-arrivals.ensures _ c.loop-task-test.true)
 
 pub loop-task-preserved : goal.loop-task-preserved
 loop-task-preserved c =
     let a = c.args in
-    let es = a.self.now.entries in
+    let es = a.self.entries in
     let p = place_in a.place in
-    let o = c.as_slice-order.result.now in
+    let o = c.as_slice-arrivals.result.now in
     let i = c.loop-task.task-index in
     let n = numbers_from es p o in
     let v = c.loop-task.invariant in
@@ -47,10 +55,10 @@ pub returns : goal.returns
 unfolding waits_of
 returns c =
     let a = c.args in
-    let es = a.self.now.entries in
+    let es = a.self.entries in
     let p = place_in a.place in
-    let o = c.as_slice-order.result.now in
+    let o = c.as_slice-arrivals.result.now in
     let n = numbers_from es p o in
     let i : c.loop-task.task-index ≡ length o = omega arith in
     task_of_lead c ∙ sym (scan_end (rank_in es) (n 0) (n c.loop-task.task-index) c.loop-task.lead (ap n i ∙ none_left es p o) c.loop-task.invariant)
-    ∙ ap (λ (l : List ℕ). first_by (rank_in es) (numbers_from es p l 0)) c.as_slice-order.ensures ∙ sym (first_ranked c.requires p)
+    ∙ ap (λ (l : List ℕ). first_by (rank_in es) (numbers_from es p l 0)) c.as_slice-arrivals.ensures ∙ sym (first_ranked c.requires p)

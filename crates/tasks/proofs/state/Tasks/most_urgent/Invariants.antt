@@ -13,4 +13,4 @@ abbrev pub rank_in : List Task → ℕ → ℕ
 rank_in ts n = (at no_task ts n).priority
 
 abbrev pub invariant-loop-task : goal.invariant-loop-task
-invariant-loop-task l = let n = numbers_from l.self.entries (place_in l.place) l.order in Scan (rank_in l.self.entries) (n 0) (n l.task-index) l.lead
+invariant-loop-task l = let n = numbers_from l.entries (place_in l.place) l.arrivals in Scan (rank_in l.entries) (n 0) (n l.task-index) l.lead
