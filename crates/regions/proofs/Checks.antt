@@ -7,7 +7,7 @@ use mathlib.Core.List.{List, [], ◌∷◌}
 use mathlib.Core.Option.{none}
 use lib.IntN.{ℤ}
 use Rattle.std.specs.Prelude.{Result}
-use Rattle.itron.specs.declared.error.Error.{Error as Err}
+use Rattle.itron.specs.declared.error.Error.{Error as Refusal}
 use lib.ListN.{length, get_or, drop, get_or-eq_default}
 use lib.Seq.{drop-cons}
 use Rattle.itron.specs.declared.error.Error.TheVariants.{Par as e_par, Obj as e_obj, Macv as e_macv}
@@ -18,10 +18,10 @@ use Rattle.model.specs.Checks.{passed}
 use Rattle.model.specs.Regions.{end, last_end, in_chain, allows, judge_in}
 
 -- ---- ladders of checks, by the values of their tests
-abbrev pub judges : Bool → Bool → Result Unit Err
+abbrev pub judges : Bool → Bool → Result Unit Refusal
 judges inside allowed = passed (refuse_if (not inside) e_obj (refuse_if (not allowed) e_macv none))
 
-abbrev pub rules : ℤ → ℕ → ℕ → ℕ → Bool → List Region → Result Unit Err
+abbrev pub rules : ℤ → ℕ → ℕ → ℕ → Bool → List Region → Result Unit Refusal
 rules d base size w area regions = passed (refuse_if (not area) e_par (judge_in regions d base size w))
 
 -- ---- the region at an index, and the chain from there on, decide what they find
