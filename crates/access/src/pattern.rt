@@ -9,5 +9,6 @@ use itron::limit::MAX_DOMAINS;
 pub fn admits(pattern: u32, domain: i32) -> bool
     ensures { result ≡ admitted pattern domain }
 {
-    domain == KERNEL_DOMAIN || ((pattern as u64) << 1 >> ordinal(domain, MAX_DOMAINS).unwrap_or(0)) & 1 == 1
+    domain == KERNEL_DOMAIN
+        || ((pattern as u64) << 1 >> ordinal(domain, MAX_DOMAINS).unwrap_or(0)) & 1 == 1
 }

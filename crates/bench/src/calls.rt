@@ -96,7 +96,10 @@ impl fmt::Display for Call {
 fn tell_level(rt: &impl Print, s: State, task: i32) -> io::Result<()>
     requires { Valid s }
 {
-    println!(rt; ", level {}", s.level(ordinal(task, MAX_TASKS).unwrap_or(0)))
+    println!(rt;
+        ", level {}",
+        s.level(ordinal(task, MAX_TASKS).unwrap_or(0))
+    )
 }
 
 // A call with its line; a refer's reply is the code alone, and then comes what it tells.

@@ -5,7 +5,7 @@ use mathlib.Core.List.{List}
 use lib.IntN.{ℤ}
 use lib.ListN.{length}
 use Rattle.itron.specs.Codes.{error}
-use Rattle.itron.specs.declared.error.Error.{Error as Err}
+use Rattle.itron.specs.declared.error.Error.{Error as Refusal}
 use Rattle.model.specs.State as Model
 use Rattle.model.specs.State.{TaskEntry}
 use Rattle.model.specs.Answers.{Out}
@@ -88,7 +88,7 @@ module _ {s : State} (v : Valid s) where
         kept = λ x h. a ∙ ap state_of (kept_law (view_of s) c x h) ∙ sym v.form;
       }
 
-  enters : (o : Out) → Sound o.state → ((x : Err) → o.answer.code ≡ error x → o.state ≡ view_of s) → {r : Entered} → r ≡ entered_of o → Enters s o r
+  enters : (o : Out) → Sound o.state → ((x : Refusal) → o.answer.code ≡ error x → o.state ≡ view_of s) → {r : Entered} → r ≡ entered_of o → Enters s o r
   enters o k h {r} e =
       let a : r.state ≡ state_of o.state = ap (λ (x : Entered). x.state) e in
       record {

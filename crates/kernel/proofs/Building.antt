@@ -12,7 +12,7 @@ use Rattle.access.specs.Domains.{ordinal_of}
 use Rattle.access.specs.Vectors.{Choice}
 use Rattle.std.specs.Prelude.{Result, Err as Refused, is_err}
 use Rattle.itron.specs.Codes.{number_of, ok_number, code_of}
-use Rattle.itron.specs.declared.error.Error.{Error as Err}
+use Rattle.itron.specs.declared.error.Error.{Error as Refusal}
 use Rattle.itron.specs.declared.error.Error.TheVariants.{Par as e_par, Id as e_id, Ctx as e_ctx, Noid as e_noid}
 use Rattle.itron.specs.Limits.{max_domains, max_tasks, max_words, min_unit}
 use Rattle.model.specs.State as Model
@@ -39,11 +39,11 @@ use Rattle.kernel.specs.Promises.{Enters}
 use Rattle.kernel.proofs.Back.{enters_entry}
 
 -- ---- steps 1 to 3 of an entry's checks, then its own
-module _ (c r d : Bool) (own : Option Err) where
-  abbrev then_own : Option Err → Option Err
+module _ (c r d : Bool) (own : Option Refusal) where
+  abbrev then_own : Option Refusal → Option Refusal
   then_own o = refuse_if c e_ctx (refuse_if r e_noid (refuse_if d e_id o))
 
-  pub opening_refuses : {e : Err} → then_own none ≡ some e → then_own own ≡ some e
+  pub opening_refuses : {e : Refusal} → then_own none ≡ some e → then_own own ≡ some e
   opening_refuses {e} h = go c r d h
     where
       go : (c r d : Bool) → refuse_if c e_ctx (refuse_if r e_noid (refuse_if d e_id none)) ≡ some e → refuse_if c e_ctx (refuse_if r e_noid (refuse_if d e_id own)) ≡ some e
@@ -117,17 +117,17 @@ fresh_taken (negsuc k) unit h = absurd (no_both h refl)
 -- ---- entries and closing
 module _ {s : State} (v : Valid s) where
   -- an entry that its checks refuse, and one that they take: x is the state with what was entered
-  pub refuses_entry : (i : Entry) {k : Result Unit Err} → k ≡ passed (check_entry (view_of s) i) → is_err k ≡ true → {r : Entered} → r ≡ entered (code_of k) s → Enters s (enter (view_of s) i) r
+  pub refuses_entry : (i : Entry) {k : Result Unit Refusal} → k ≡ passed (check_entry (view_of s) i) → is_err k ≡ true → {r : Entered} → r ≡ entered (code_of k) s → Enters s (enter (view_of s) i) r
   unfolding enter
   refuses_entry i {k} h f q =
       let x = passed_some (check_entry (view_of s) i) h f in
       let o = x.1 in
       let form = v.form in
-      enters_entry v i (q ∙ (λ j. entered (code_of ((h ∙ ap passed o) j)) (form j)) ∙ ap (λ (o : Option Err). entered_of (enter_by (view_of s) i o)) (sym o))
+      enters_entry v i (q ∙ (λ j. entered (code_of ((h ∙ ap passed o) j)) (form j)) ∙ ap (λ (o : Option Refusal). entered_of (enter_by (view_of s) i o)) (sym o))
 
   pub takes_entry : (i : Entry) → check_entry (view_of s) i ≡ none → {x : State} → x ≡ state_of (add (view_of s) i) → {r : Entered} → r ≡ entered ok_number x → Enters s (enter (view_of s) i) r
   unfolding enter
-  takes_entry i h e q = enters_entry v i (q ∙ ap (entered ok_number) e ∙ ap (λ (o : Option Err). entered_of (enter_by (view_of s) i o)) (sym h))
+  takes_entry i h e q = enters_entry v i (q ∙ ap (entered ok_number) e ∙ ap (λ (o : Option Refusal). entered_of (enter_by (view_of s) i o)) (sym h))
 
   pub close_again : s.closed ≡ true → entered (number_of e_ctx) s ≡ entered_of (close (view_of s))
   unfolding close

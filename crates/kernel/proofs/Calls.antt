@@ -4,7 +4,7 @@ use mathlib.Core.Path.{◌≡◌, refl, sym, ap, ◌∙◌}
 use mathlib.Core.Bool.{true}
 use mathlib.Core.Option.{Option}
 use lib.IntN.{ℤ}
-use Rattle.itron.specs.declared.error.Error.{Error as Err}
+use Rattle.itron.specs.declared.error.Error.{Error as Refusal}
 use Rattle.model.specs.State.{no}
 use Rattle.model.specs.Answers.{plain, no_info}
 use Rattle.model.specs.Acts.{Act}
@@ -35,10 +35,10 @@ use Rattle.kernel.proofs.Checks.{admits_as, refusal, admission}
 -- ---- a part of the state, P: what its room's effects make of it
 pub record Part {C R : Type 0} (r : Room C R) (P : Type 0) (s : State) : Type 0 where
   -- what an act does, by what its checks found; the answer that this makes
-  pub acted : Act C → Result Admitted Err → Effect P
+  pub acted : Act C → Result Admitted Refusal → Effect P
   pub answer : Effect P → Answer
   -- a refusal leaves everything as it was; an effect is the rules' effect
-  pub refused : (a : Act C) (e : Err) → answer (acted a (Refused e)) ≡ answered (plain (number_of e) 0) no_info s
+  pub refused : (a : Act C) (e : Refusal) → answer (acted a (Refused e)) ≡ answered (plain (number_of e) 0) no_info s
   pub does : (a : Act C) (t o : ℕ) → answer (acted a (admits_as t o)) ≡ answer_of (on_records r (view_of s) (act_on r (view_of s).fixed.tasks (view_of s).waits (r.records (view_of s)) (suc t) (suc o) a))
 
 module _ {s : State} (v : Valid s) where
@@ -61,10 +61,10 @@ module _ {s : State} (v : Valid s) where
 -- ---- a call on an object of a part
 module _ {s : State} (v : Valid s) {C R : Type 0} {r : Room C R} {P : Type 0} (p : Part r P s) (z n : ℤ) (a : Act C) where
   -- the rules' answer, whatever the checks give
-  abbrev by : Option Err → Answer
+  abbrev by : Option Refusal → Answer
   by o = answer_of (act_if (view_of s) (no z) (on_object r n a) o)
 
-  answers : (k : Result Admitted Err) → check_of r s z n a ≡ k → p.answer (p.acted a k) ≡ by ((on_object r n a).check (view_of s) (no z))
+  answers : (k : Result Admitted Refusal) → check_of r s z n a ≡ k → p.answer (p.acted a k) ≡ by ((on_object r n a).check (view_of s) (no z))
   answers (Refused e) h =
       p.refused a e ∙ ap (answered (plain (number_of e) 0) no_info) v.form ∙ ap by (sym (refusal r s z n a e h))
   answers (Ok k) h =

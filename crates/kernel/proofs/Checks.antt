@@ -10,7 +10,7 @@ use lib.IntN.{ℤ}
 use lib.ListN.{length}
 use Rattle.access.specs.Domains.{running_of}
 use Rattle.access.specs.Vectors.{pattern_of}
-use Rattle.itron.specs.declared.error.Error.{Error as Err}
+use Rattle.itron.specs.declared.error.Error.{Error as Refusal}
 use Rattle.itron.specs.declared.error.Error.TheVariants.{Ctx as e_ctx, Id as e_id, Par as e_par, Noexs as e_noexs, Oacv as e_oacv}
 use Rattle.model.specs.Lists.{index}
 use Rattle.model.specs.State as Model
@@ -34,7 +34,7 @@ use Rattle.kernel.specs.Inside.{caller_in, checked_by, check_of}
 abbrev pub calls_as : ℕ → ℤ → Optional Caller
 calls_as t d = Some (record { task = t; domain = d })
 
-abbrev pub admits_as : ℕ → ℕ → Result Admitted Err
+abbrev pub admits_as : ℕ → ℕ → Result Admitted Refusal
 admits_as t n = Ok (record { task = t; object = n })
 
 calls_same : {t u : ℕ} {d e : ℤ} → calls_as t d ≡ calls_as u e → (t ≡ u) × (d ≡ e)
@@ -143,21 +143,21 @@ module _ (m : Model.State) (t : ℕ) where
         go false y l q = absurd (no_both y refl)
 
 -- ---- what the checks found
-abbrev refused_or : Result Admitted Err → Err → Err
+abbrev refused_or : Result Admitted Refusal → Refusal → Refusal
 refused_or (Refused e) d = e
 refused_or (Ok x) d = d
 
-abbrev admitted_or : Result Admitted Err → Admitted → Admitted
+abbrev admitted_or : Result Admitted Refusal → Admitted → Admitted
 admitted_or (Ok x) y = x
 admitted_or (Refused e) y = y
 
 module _ {C R : Type 0} (r : Room C R) (s : State) (z n : ℤ) (a : Act C) where
   -- a call that they refuse: the model's answer is that refusal
-  pub refusal : (e : Err) → check_of r s z n a ≡ Refused e → check r (view_of s) (no z) (no n) a ≡ some e
+  pub refusal : (e : Refusal) → check_of r s z n a ≡ Refused e → check r (view_of s) (no z) (no n) a ≡ some e
   refusal e h = go (check r (view_of s) (no z) (no n) a) h
     where
-      go : (o : Option Err) → checked o (no z) (no n) ≡ Refused e → o ≡ some e
-      go (some x) q = ap (λ (k : Result Admitted Err). some (refused_or k x)) q
+      go : (o : Option Refusal) → checked o (no z) (no n) ≡ Refused e → o ≡ some e
+      go (some x) q = ap (λ (k : Result Admitted Refusal). some (refused_or k x)) q
       go none q = absurd (let z : ◌≡◌ {A = ℕ} 0 1 = cc in omega arith)
 
   -- a call that they admit: who calls is ready, and the object is there
@@ -171,11 +171,11 @@ module _ {C R : Type 0} (r : Room C R) (s : State) (z n : ℤ) (a : Act C) where
   pub admission : (t o : ℕ) → check_of r s z n a ≡ admits_as t o → Admission t o
   admission t o e = go (check r (view_of s) (no z) (no n) a) refl e
     where
-      go : (x : Option Err) → check r (view_of s) (no z) (no n) a ≡ x → checked x (no z) (no n) ≡ admits_as t o → Admission t o
+      go : (x : Option Refusal) → check r (view_of s) (no z) (no n) a ≡ x → checked x (no z) (no n) ≡ admits_as t o → Admission t o
       go (some x) c q = absurd (let z : ◌≡◌ {A = ℕ} 0 1 = cc in omega arith)
       go none c q =
           let p = passed r (view_of s) (no z) (no n) a c in
-          let f : Result Admitted Err → Admitted = λ x. admitted_or x (record { task = t; object = o }) in
+          let f : Result Admitted Refusal → Admitted = λ x. admitted_or x (record { task = t; object = o }) in
           let i : index (no z) ≡ t = ap (λ x. (f x).task) q in
           let j : index (no n) ≡ o = ap (λ x. (f x).object) q in
           let b : no z ≡ suc t = number (no z) p.calls.caller ∙ ap suc i in
@@ -191,5 +191,5 @@ module _ {C R : Type 0} (r : Room C R) (s : State) (z n : ℤ) (a : Act C) where
           }
 
   -- what an effect may take for granted of what they found
-  pub passes : {k : Result Admitted Err} → check_of r s z n a ≡ k → Passed s.tasks (length (r.records (view_of s))) k
+  pub passes : {k : Result Admitted Refusal} → check_of r s z n a ≡ k → Passed s.tasks (length (r.records (view_of s))) k
   passes h = record { free = λ x e. (admission x.task x.object (h ∙ e)).free; there = λ x e. (admission x.task x.object (h ∙ e)).there }

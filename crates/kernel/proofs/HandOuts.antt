@@ -7,7 +7,7 @@ use Prim.Native.Nat.{ℕ}
 use lib.IntN.{ℤ}
 use Rattle.std.specs.Prelude.{Option as Optional, unwrap_or, Result, Ok, Err as Refused, is_err}
 use Rattle.images.specs.Parts.{part_of_found}
-use Rattle.itron.specs.declared.error.Error.{Error as Err}
+use Rattle.itron.specs.declared.error.Error.{Error as Refusal}
 use Rattle.itron.specs.declared.error.Error.TheVariants.{Ctx as e_ctx, Par as e_par, Noexs as e_noexs}
 use Rattle.model.specs.Answers.{refuse_if}
 use Rattle.model.specs.Checks.{passed}
@@ -49,9 +49,9 @@ module _ (s : State) (d : ℤ) (base size : ℕ) (flash ram : Image) where
       lent = λ i. refuse_if (not (sym c i)) e_ctx (refuse_if (not (sym k i)) e_par (once_allowed (verdict (view_of s) d base size read_alone) (refuse_if (not (is_held (holder flash ram base size))) e_noexs none)))
 
       -- the verdict refuses
-      pub out_refused : {e : Err} → passed (verdict (view_of s) d base size read_alone) ≡ Refused e → Refused e ≡ passed (hand_out (view_of s) d base size flash ram)
+      pub out_refused : {e : Refusal} → passed (verdict (view_of s) d base size read_alone) ≡ Refused e → Refused e ≡ passed (hand_out (view_of s) d base size flash ram)
       out_refused {e} h =
-          ap (λ (o : Option Err). passed (once_allowed o (refuse_if (not (is_held (holder flash ram base size))) e_noexs none))) (sym (passed_err (verdict (view_of s) d base size read_alone) h)) ∙ ap passed lent
+          ap (λ (o : Option Refusal). passed (once_allowed o (refuse_if (not (is_held (holder flash ram base size))) e_noexs none))) (sym (passed_err (verdict (view_of s) d base size read_alone) h)) ∙ ap passed lent
 
       -- it allows
       module _ (h : passed (verdict (view_of s) d base size read_alone) ≡ Ok tt) where
@@ -65,12 +65,12 @@ module _ (s : State) (d : ℤ) (base size : ℕ) (flash ram : Image) where
         out_ok e = ap passed (allowed true e)
 
   -- the bytes, by what the same inputs' checks give
-  module _ {k : Result Unit Err} (e : k ≡ passed (hand_out (view_of s) d base size flash ram)) where
+  module _ {k : Result Unit Refusal} (e : k ≡ passed (hand_out (view_of s) d base size flash ram)) where
     pub part_refused : is_err k ≡ true → [] ≡ handed_bytes (view_of s) d base size flash ram
     unfolding handed_bytes
     part_refused h =
-        ap (λ (o : Option Err). unless_refused o (part_of (holder flash ram base size) base size)) (sym (passed_some (hand_out (view_of s) d base size flash ram) e h).1)
+        ap (λ (o : Option Refusal). unless_refused o (part_of (holder flash ram base size) base size)) (sym (passed_some (hand_out (view_of s) d base size flash ram) e h).1)
 
     pub part_ok : is_err k ≡ false → part_of (holder flash ram base size) base size ≡ handed_bytes (view_of s) d base size flash ram
     unfolding handed_bytes
-    part_ok h = ap (λ (o : Option Err). unless_refused o (part_of (holder flash ram base size) base size)) (sym (passed_none (hand_out (view_of s) d base size flash ram) e h))
+    part_ok h = ap (λ (o : Option Refusal). unless_refused o (part_of (holder flash ram base size) base size)) (sym (passed_none (hand_out (view_of s) d base size flash ram) e h))

@@ -8,7 +8,7 @@ use mathlib.Core.Option.{Option, none, some}
 use lib.IntN.{ℤ}
 use lib.ListN.{length, get_or}
 use Rattle.itron.specs.Codes.{ok_number, number_of}
-use Rattle.itron.specs.declared.error.Error.{Error as Err}
+use Rattle.itron.specs.declared.error.Error.{Error as Refusal}
 use Rattle.itron.specs.declared.error.Error.TheVariants.{Ctx as e_ctx}
 use Rattle.model.specs.Lists.{put}
 use Rattle.model.specs.State.{level_at, no}
@@ -52,10 +52,10 @@ module _ {s : State} (v : Valid s) where
   -- ---- what a call gives, by who calls
   module _ (z : ℤ) (c : ExtendedCall) where
     -- the rules' answer, whatever the checks give
-    abbrev by : Option Err → Out
+    abbrev by : Option Refusal → Out
     by o = act_if (view_of s) (no z) (of_level c) o
 
-    pub level_nobody : caller_in (view_of s) (no z) ≡ None → ◌≡◌ {A = Result Levels Err} (Refused e_ctx) (levels_given (step (view_of s) (call z (on_level c))))
+    pub level_nobody : caller_in (view_of s) (no z) ≡ None → ◌≡◌ {A = Result Levels Refusal} (Refused e_ctx) (levels_given (step (view_of s) (call z (on_level c))))
     unfolding step check
     level_nobody h =
         ap (λ (b : Bool). levels_given (by (refuse_if (not b) e_ctx (level_check c (level_at (view_of s) (no z)))))) (sym (uncalled (view_of s) (no z) h))
@@ -73,15 +73,15 @@ module _ {s : State} (v : Valid s) where
         k : ℕ
         k = level_after c (level_at (view_of s) (no z))
 
-        go : (o : Option Err) → acted_by s.levels task o k ≡ levels_given (by o)
+        go : (o : Option Refusal) → acted_by s.levels task o k ≡ levels_given (by o)
         go (some e) = λ i. Refused e
         go none = ap (λ (x : Levels). Ok x) (with_seen task k n.low ∙ ap (λ (t : ℕ). levels_as (put (view_of s).levels t k)) (sym n.names))
 
     -- ---- the whole promise
-    pub on_levels : {x : Result Levels Err} {r : Answer} → x ≡ levels_given (step (view_of s) (call z (on_level c))) → r ≡ levels_answered s x → Does s (call z (on_level c)) r
+    pub on_levels : {x : Result Levels Refusal} {r : Answer} → x ≡ levels_given (step (view_of s) (call z (on_level c))) → r ≡ levels_answered s x → Does s (call z (on_level c)) r
     unfolding step
     on_levels e q = promise v (call z (on_level c)) (q ∙ ap (levels_answered s) e ∙ go (check (view_of s) (no z) c))
       where
-        go : (o : Option Err) → levels_answered s (levels_given (by o)) ≡ answer_of (by o)
+        go : (o : Option Refusal) → levels_answered s (levels_given (by o)) ≡ answer_of (by o)
         go (some x) = ap (answered (plain (number_of x) 0) no_info) v.form
         go none = ap (λ (y : State). answered (plain ok_number 0) no_info (with_levels y (levels_as (by none).state.levels))) v.form

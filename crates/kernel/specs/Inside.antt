@@ -5,7 +5,7 @@ use Rattle.access.specs.Patterns.{admitted}
 use Rattle.access.specs.Vectors.{pattern_of}
 use Rattle.access.specs.declared.vector.Operation.{Operation}
 use Rattle.itron.specs.Codes.{Code, ok, waiting, error, ok_number, number_of}
-use Rattle.itron.specs.declared.error.Error.{Error as Err}
+use Rattle.itron.specs.declared.error.Error.{Error as Refusal}
 use Rattle.itron.specs.declared.error.Error.TheVariants.{Ctx as e_ctx, Noid as e_noid, Id as e_id, Oacv as e_oacv}
 use Rattle.model.specs.Lists.{index}
 use Rattle.model.specs.State as Model
@@ -53,29 +53,29 @@ abbrev pub caller_in : Model.State → ℕ → Optional Caller
 caller_in m t = cond (m.fixed.closed && ready m t) (Some (record { task = index t; domain = running_at m t })) None
 
 -- first hit wins: who calls, which object, and whether the caller's running domain is admitted
-abbrev pub checked_by : Optional Caller → Operation → Result Target Err → Result Admitted Err
+abbrev pub checked_by : Optional Caller → Operation → Result Target Refusal → Result Admitted Refusal
 checked_by None o x = Refused e_ctx
 checked_by (Some c) o (Refused e) = Refused e
 checked_by (Some c) o (Ok x) = cond (admitted (pattern_of x.vector o) c.domain) (Ok (record { task = c.task; object = x.object })) (Refused e_oacv)
 
 -- what the checks give for an act of task z on the object n
-abbrev pub check_of : {C R : Type 0} → Room C R → State → ℤ → ℤ → Act C → Result Admitted Err
+abbrev pub check_of : {C R : Type 0} → Room C R → State → ℤ → ℤ → Act C → Result Admitted Refusal
 check_of r s z n a = checked (check r (view_of s) (no z) (no n) a) (no z) (no n)
 
 -- ---- what a call on the caller's level gives: a refusal, or the levels after it
-abbrev pub given_by : Code → Levels → Result Levels Err
+abbrev pub given_by : Code → Levels → Result Levels Refusal
 given_by ok x = Ok x
 given_by waiting x = Ok x
 given_by (error e) x = Refused e
 
-abbrev pub levels_given : Out → Result Levels Err
+abbrev pub levels_given : Out → Result Levels Refusal
 levels_given o = given_by o.answer.code (levels_as o.state.levels)
 
 -- the answer that it makes; a refusal leaves the very state
-abbrev pub levels_answered : State → Result Levels Err → Answer
+abbrev pub levels_answered : State → Result Levels Refusal → Answer
 levels_answered s (Ok x) = answered (plain ok_number 0) no_info (with_levels s x)
 levels_answered s (Refused e) = answered (plain (number_of e) 0) no_info s
 
 -- ---- steps 1 to 3 of an entry's checks
-abbrev pub opening : Bool → ℕ → ℕ → Bool → Option Err
+abbrev pub opening : Bool → ℕ → ℕ → Bool → Option Refusal
 opening closed used most owned = refuse_if closed e_ctx (refuse_if (not (ltb used most)) e_noid (refuse_if (not owned) e_id none))

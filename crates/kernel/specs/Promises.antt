@@ -1,7 +1,7 @@
 -- What each operation promises, whatever goes in: the whole answer with the complete state, refusals too. Definitions only.
 use Rattle.std.specs.Prelude.{◌≡◌, ℕ, ℤ}
 use Rattle.itron.specs.Codes.{error}
-use Rattle.itron.specs.declared.error.Error.{Error as Err}
+use Rattle.itron.specs.declared.error.Error.{Error as Refusal}
 use Rattle.model.specs.Answers.{Out}
 use Rattle.model.specs.Table.{fresh}
 use Rattle.model.specs.Calls.{Call, step}
@@ -21,7 +21,7 @@ pub record Does (s : State) (c : Call) (r : Answer) : Type 0 where
   -- the condition holds again
   pub valid : Valid r.state
   -- a refusal gives back the very state
-  pub kept : (e : Err) → (step (view_of s) c).answer.code ≡ error e → r.state ≡ s
+  pub kept : (e : Refusal) → (step (view_of s) c).answer.code ≡ error e → r.state ≡ s
 
 -- a refer; whatever it answers, the state is the one it got
 pub record Tells (s : State) (c : Call) (r : Answer) : Type 0 where
@@ -40,4 +40,4 @@ pub record Enters (s : State) (o : Out) (r : Entered) : Type 0 where
   pub same : r ≡ entered_of o
   pub seen : view_of r.state ≡ o.state
   pub valid : Valid r.state
-  pub kept : (e : Err) → o.answer.code ≡ error e → r.state ≡ s
+  pub kept : (e : Refusal) → o.answer.code ≡ error e → r.state ≡ s

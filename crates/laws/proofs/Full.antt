@@ -8,7 +8,7 @@ use mathlib.Core.List.{List, [], ◌∷◌, ◌++◌, append-nil}
 use mathlib.Core.Option.{Option, none, some}
 use lib.IntN.{ℤ, pos, negsuc, neg_ℤ}
 use Rattle.access.specs.Vectors.{private_of}
-use Rattle.itron.specs.declared.error.Error.{Error as Err}
+use Rattle.itron.specs.declared.error.Error.{Error as Refusal}
 use Rattle.itron.specs.Limits.{max_domains, min_unit}
 use Rattle.model.specs.State as Model
 use Rattle.model.specs.Answers.{Out, code_of, when_ok}
@@ -55,7 +55,7 @@ pub taken_when_0 : (s : State) (b : Built s) (i : Entry) (r : Entered) (g : Ente
 unfolding enter
 taken_when_0 s b i r g = go (check_entry (view_of s) i) (code_given s _ r g)
   where
-    go : (o : Option Err) → r.code ≡ code_of (enter_by (view_of s) i o).answer.code
+    go : (o : Option Refusal) → r.code ≡ code_of (enter_by (view_of s) i o).answer.code
         → (r.code ≡ pos 0 → taken b ++ when_ok [] (i ∷ []) (enter_by (view_of s) i o).answer.code ≡ taken b ++ (i ∷ [])) × (r.code ≢ pos 0 → taken b ++ when_ok [] (i ∷ []) (enter_by (view_of s) i o).answer.code ≡ taken b)
     go none e = ((λ z. refl), (λ z. absurd (z e)))
     go (some x) e = ((λ z. let q : negsuc (refusal_negative x).0 ≡ pos 0 = sym (refusal_negative x).1 ∙ sym e ∙ z in cc), (λ z. append-nil (taken b)))

@@ -8,7 +8,7 @@ use lib.IntN.{ℤ, pos, negsuc}
 use lib.Dec.{leb}
 use lib.ListN.{length, drop}
 use Rattle.access.specs.Patterns.{admitted}
-use Rattle.itron.specs.declared.error.Error.{Error as Err}
+use Rattle.itron.specs.declared.error.Error.{Error as Refusal}
 use Rattle.itron.specs.Limits.{max_domains}
 use Rattle.model.specs.State as Model
 use Rattle.model.specs.State.{Place, Waiter, no_queue, running_at}
@@ -56,7 +56,7 @@ pub idle_enter : (s : Model.State) (i : Entry) → Idle s → Idle (enter s i).s
 unfolding enter
 idle_enter s i k = record { is_open = go (check_entry s i); sound = sound_enter s i k.sound }
   where
-    go : (o : Option Err) → (enter_by s i o).state.fixed.closed ≡ false
+    go : (o : Option Refusal) → (enter_by s i o).state.fixed.closed ≡ false
     go (some e) = k.is_open
     go none = open_add s i k.is_open
 

@@ -4,7 +4,7 @@ use Rattle.std.proofs.Math.Option.{Option, none, some}
 use Rattle.access.specs.declared.vector.Vector.{Vector}
 use Rattle.std.specs.Prelude.{Some as Given}
 use Rattle.itron.specs.Codes.{Code, ok, waiting, error}
-use Rattle.itron.specs.declared.error.Error.{Error as Err}
+use Rattle.itron.specs.declared.error.Error.{Error as Refusal}
 use Rattle.itron.specs.declared.error.Error.TheVariants.{Oacv as e_oacv, Tmout as e_tmout, Qovr as e_qovr, Obj as e_obj, Macv as e_macv}
 use Rattle.model.specs.State as Model
 use Rattle.model.specs.State.{sem_at, queue_at}
@@ -62,7 +62,7 @@ pub data Result : Type 0 where
   says : Code → (word : ℕ) → List Released → Result
   counts : ℕ → Result
   buffers : List ℕ → Result
-  finds : Option Err → Result
+  finds : Option Refusal → Result
 
 abbrev pub result_in : Answer → Result
 result_in a = says a.code a.word a.released
@@ -78,7 +78,7 @@ run s (asks d b z w ∷ l) = finds (verdict s (pos d) b z w) ∷ run s l
 abbrev pub done : Result
 done = says ok 0 []
 
-abbrev pub refused : Err → Result
+abbrev pub refused : Refusal → Result
 refused e = says (error e) 0 []
 
 abbrev pub waits : Result

@@ -15,7 +15,7 @@ use Rattle.access.specs.Domains.{running_of}
 use Rattle.access.specs.Patterns.{admitted}
 use Rattle.access.specs.Vectors.{pattern_of}
 use Rattle.itron.specs.Codes.{Code, ok, error}
-use Rattle.itron.specs.declared.error.Error.{Error as Err}
+use Rattle.itron.specs.declared.error.Error.{Error as Refusal}
 use Rattle.itron.specs.declared.error.Error.TheVariants.{Sys as e_sys, Ctx as e_ctx, Id as e_id, Par as e_par, Noexs as e_noexs, Oacv as e_oacv}
 use Rattle.itron.specs.Limits.{max_level}
 use Rattle.model.specs.Lists.{All}
@@ -96,21 +96,21 @@ may_tells : (s : State) (t : ℕ) (op : Op) → Tells (admits (running_at s t) (
 may_tells s t op = true_tells _
 
 -- the checks by these tests: no call on an object has others
-abbrev after_there : State → ℕ → Op → Option Err
+abbrev after_there : State → ℕ → Op → Option Refusal
 after_there s t op = refuse_if (not (admits (running_at s t) (pattern_now s op))) e_oacv none
 
-abbrev after_range : State → ℕ → Op → Option Err
+abbrev after_range : State → ℕ → Op → Option Refusal
 after_range s t op = refuse_if (not (leb (no (named s op).number) (named s op).registered)) e_noexs (after_there s t op)
 
-abbrev on_number : State → ℕ → Op → Option Err
+abbrev on_number : State → ℕ → Op → Option Refusal
 on_number s t op = refuse_if (not (in_range (named s op).most (no (named s op).number))) e_id (after_range s t op)
 
-abbrev after_ready : State → ℕ → Op → Option Err
+abbrev after_ready : State → ℕ → Op → Option Refusal
 after_ready s t (on_semaphore n a) = on_number s t (on_semaphore n a)
 after_ready s t (on_queue n a) = on_number s t (on_queue n a)
 after_ready s t (on_level c) = level_check c (level_at s t)
 
-abbrev checks : State → ℕ → Op → Option Err
+abbrev checks : State → ℕ → Op → Option Refusal
 checks s t op = refuse_if (not (s.fixed.closed && ready s t)) e_ctx (after_ready s t op)
 
 -- a room's, where a call must meet nothing besides and p is the pattern that governs it
@@ -142,7 +142,7 @@ goes_on s t (on_level c) o = absurd o
 abbrev pub answers : Code → ℕ → List Released → Answer
 answers c w rs = record { code = c; word = w; released = rs; info = record { first = 0; second = 0; amount = 0; vector = record { normal1 = 0; normal2 = 0; management = 0; reference = 0 } } }
 
-abbrev pub refuses : Err → Answer
+abbrev pub refuses : Refusal → Answer
 refuses e = answers (error e) 0 []
 
 -- a released task with its word
@@ -150,11 +150,11 @@ abbrev pub with : Waiter → ℕ → List Released
 with e w = record { task = e.task; word = w } ∷ []
 
 module _ (s : State) (t : ℤ) (op : Op) where
-  step_by : (o : Option Err) → checks s (no t) op ≡ o → step s (call t op) ≡ act_if s (no t) (asks op) o
+  step_by : (o : Option Refusal) → checks s (no t) op ≡ o → step s (call t op) ≡ act_if s (no t) (asks op) o
   unfolding step
   step_by o h = ap (act_if s (no t) (asks op)) (checks_are s (no t) op ∙ h)
 
-  answer_by : (o : Option Err) → checks s (no t) op ≡ o → (step s (call t op)).answer ≡ (act_if s (no t) (asks op) o).answer
+  answer_by : (o : Option Refusal) → checks s (no t) op ≡ o → (step s (call t op)).answer ≡ (act_if s (no t) (asks op) o).answer
   answer_by o h = ap (λ (x : Out). x.answer) (step_by o h)
 
   -- "table not closed, or caller not a registered ready task: E_CTX"
@@ -218,7 +218,7 @@ abbrev pub Denied : State → ℤ → Op → Type 0
 Denied s t op = OnObject op × (Ready s (no t) × (InRange s op × (There s op × (May s (no t) op → ⊥))))
 
 -- no call on the caller's level is
-unlike : (b : Bool) {e : Err} → e ≢ e_oacv → refuse_if b e none ≡ some e_oacv → ⊥
+unlike : (b : Bool) {e : Refusal} → e ≢ e_oacv → refuse_if b e none ≡ some e_oacv → ⊥
 unlike true n q = n (cc)
 unlike false n q = let z : ◌≡◌ {A = ℕ} 0 1 = cc in omega arith
 
@@ -230,9 +230,9 @@ judged s t (on_level Leave) h = unlike (eqb (level_at s t) 0) {e = e_ctx} (λ q.
 
 oacv_only : (s : State) (t : ℤ) (op : Op) → (step s (call t op)).answer.code ≡ error e_oacv → Denied s t op
 unfolding step
-oacv_only s t op q = go (checks s (no t) op) refl (ap (λ (o : Option Err). (act_if s (no t) (asks op) o).answer.code) (sym (checks_are s (no t) op)) ∙ q)
+oacv_only s t op q = go (checks s (no t) op) refl (ap (λ (o : Option Refusal). (act_if s (no t) (asks op) o).answer.code) (sym (checks_are s (no t) op)) ∙ q)
   where
-    go : (o : Option Err) → checks s (no t) op ≡ o → (act_if s (no t) (asks op) o).answer.code ≡ error e_oacv → Denied s t op
+    go : (o : Option Refusal) → checks s (no t) op ≡ o → (act_if s (no t) (asks op) o).answer.code ≡ error e_oacv → Denied s t op
     go none h k = absurd ((lawful op).undenied s (no t) k)
     go (some e) h k =
         let f : checks s (no t) op ≡ some e_oacv = cc in

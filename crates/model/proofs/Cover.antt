@@ -9,7 +9,7 @@ use lib.Dec.{eqb}
 use lib.IntN.{ℤ}
 use lib.ListN.{length}
 use Rattle.itron.specs.Codes.{ok, waiting, error}
-use Rattle.itron.specs.declared.error.Error.{Error as Err}
+use Rattle.itron.specs.declared.error.Error.{Error as Refusal}
 use Rattle.itron.specs.declared.error.Error.TheVariants.{Ctx as e_ctx, Oacv as e_oacv}
 use Rattle.model.specs.Lists.{at, All}
 use Rattle.model.specs.State.{Vector, Place, Waiter, State, set_waits, no}
@@ -37,7 +37,7 @@ pub record Alike (s : State) (ws : List Waiter) (s' : State) : Type 0 where
 
 -- a claim about a call of task t that asks x, and what it gives
 pub record Endings (s : State) (P : ℕ → Asks → Out → Type 0) : Type 0 where
-  pub refused : (t : ℕ) (x : Asks) (e : Err) → x.serves (error e) ≡ none → P t x (refuse s e)
+  pub refused : (t : ℕ) (x : Asks) (e : Refusal) → x.serves (error e) ≡ none → P t x (refuse s e)
   pub tells : (t : ℕ) (x : Asks) → x.is_refer ≡ true → x.serves ok ≡ none → P t x (out (tells (x.told s)) s)
   pub gives : (t : ℕ) (x : Asks) (s' : State) (w : ℕ) → Alike s s.waits s' → Vacant s.waits (x.serves ok) → P t x (out (say ok w []) s')
   pub wakes : (t : ℕ) (x : Asks) (s' : State) (p : Place) (e : Waiter) (l : List Waiter) (w h : ℕ) → Alike s (leave e.task s.waits) s' → x.serves ok ≡ some p → wait_queue s p ≡ e ∷ l
@@ -52,7 +52,7 @@ pub record Lawful (x : Asks) : Type 1 where
   pub undenied : (s : State) (t : ℕ) → (x.act s t).answer.code ≡ error e_oacv → ⊥
   -- an open table refuses it; refused it serves nobody
   pub closed_first : (s : State) (t : ℕ) → s.fixed.closed ≡ false → x.check s t ≡ some e_ctx
-  pub unserved : (e : Err) → x.serves (error e) ≡ none
+  pub unserved : (e : Refusal) → x.serves (error e) ≡ none
   -- a refer tells, of tasks that wait, and changes nothing
   pub refers : (s : State) (t : ℕ) → x.is_refer ≡ true → x.act s t ≡ out (tells (x.told s)) s
   pub tells_first : (s : State) (m : ℕ) → ((b : Bool) (p : Place) → first_task (standing b s.fixed.tasks (waiters_at s p)) ≤ m) → (x.told s).first ≤ m
@@ -60,7 +60,7 @@ pub record Lawful (x : Asks) : Type 1 where
 
 -- a call on an object of a room
 module _ {C R : Type 0} {r : Room C R} (l : RoomLaws r) (n : ℤ) where
-  serves_none : (a : Act C) (e : Err) → (on_object r n a).serves (error e) ≡ none
+  serves_none : (a : Act C) (e : Refusal) → (on_object r n a).serves (error e) ≡ none
   serves_none a e = own_same none (λ c. r.serves (no n) c (error e)) (l.unserved (no n) e) a
 
   module _ (s : State) (P : ℕ → Asks → Out → Type 0) (es : Endings s P) (t : ℕ) where
@@ -130,7 +130,7 @@ module _ (s : State) (P : ℕ → Asks → Out → Type 0) (es : Endings s P) wh
   unfolding step
   ends c = go ((asks c.op).check s (no c.caller)) refl
     where
-      go : (o : Option Err) → (asks c.op).check s (no c.caller) ≡ o → P (no c.caller) (asks c.op) (act_if s (no c.caller) (asks c.op) o)
+      go : (o : Option Refusal) → (asks c.op).check s (no c.caller) ≡ o → P (no c.caller) (asks c.op) (act_if s (no c.caller) (asks c.op) o)
       go (some e) h = es.refused (no c.caller) (asks c.op) e ((lawful c.op).unserved e)
       go none h = (lawful c.op).ends s P es (no c.caller) h
 
@@ -142,7 +142,7 @@ pub data Whose {C R : Type 0} (r : Room C R) (l : RoomLaws r) (asked_of : ℕ �
 
 -- a claim about what the object i sees of a call, and the state after it: what is asked of another object leaves its record and its wait queues alone
 pub record Sees {C R : Type 0} (r : Room C R) (l : RoomLaws r) (s : State) (i : ℕ) (P : Made C → State → Type 0) : Type 0 where
-  pub refused : (t : ℕ) (a : Option (Act C)) (x : Option ExtendedCall) (e : Err) → P (record { caller = t; asked = a; extended = x; answer = say (error e) 0 [] }) s
+  pub refused : (t : ℕ) (a : Option (Act C)) (x : Option ExtendedCall) (e : Refusal) → P (record { caller = t; asked = a; extended = x; answer = say (error e) 0 [] }) s
   pub elsewhere : (t : ℕ) (x : Option ExtendedCall) (a : Answer) (s' : State) → at r.nothing (r.records s') i ≡ at r.nothing (r.records s) i
       → (Distinct s.waits → (p : Place) → is_at l.tag i p ≡ true → waiters_at s' p ≡ waiters_at s p) → P (record { caller = t; asked = none; extended = x; answer = a }) s'
   pub here : (t : ℕ) (a : Act C) (x : Option ExtendedCall) → Passed r s t i a
@@ -181,7 +181,7 @@ module _ {C R : Type 0} (r : Room C R) (l : RoomLaws r) (asked_of : ℕ → Op �
     unfolding step
     sees c = go ((asks c.op).check s (no c.caller)) refl
       where
-        go : (o : Option Err) → (asks c.op).check s (no c.caller) ≡ o
+        go : (o : Option Refusal) → (asks c.op).check s (no c.caller) ≡ o
             → P (record { caller = no c.caller; asked = asked_of i c.op; extended = extended_of c.op; answer = (act_if s (no c.caller) (asks c.op) o).answer }) (act_if s (no c.caller) (asks c.op) o).state
         go (some e) h = cs.refused (no c.caller) (asked_of i c.op) (extended_of c.op) e
         go none h = by_whose i P cs (no c.caller) (extended_of c.op) c.op h (whose c.op)
@@ -196,7 +196,7 @@ module _ {C R : Type 0} (r : Room C R) (l : RoomLaws r) (asked_of : ℕ → Op �
     unfolding step
     keeps_records c = go ((asks c.op).check s (no c.caller)) refl
       where
-        go : (o : Option Err) → (asks c.op).check s (no c.caller) ≡ o → Q (r.records (act_if s (no c.caller) (asks c.op) o).state)
+        go : (o : Option Refusal) → (asks c.op).check s (no c.caller) ≡ o → Q (r.records (act_if s (no c.caller) (asks c.op) o).state)
         go (some e) h = z
         go none h = by_records (no c.caller) c.op h (whose c.op)
 
@@ -211,7 +211,7 @@ module _ {C R : Type 0} (r : Room C R) (l : RoomLaws r) (asked_of : ℕ → Op �
 
   -- ---- the vectors: that of an object is the last one set on it
   -- a refusal sets none
-  unset : (a : Option (Act C)) (e : Err) (v : Vector) → v ≡ vector_by a (error e) v
+  unset : (a : Option (Act C)) (e : Refusal) (v : Vector) → v ≡ vector_by a (error e) v
   unset none e v = refl
   unset (some a) e v = refl
 

@@ -11,7 +11,7 @@ use Rattle.access.specs.Domains.{running_of}
 use Rattle.access.specs.Patterns.{admitted}
 use Rattle.access.specs.Vectors.{resolved}
 use Rattle.itron.specs.Codes.{error}
-use Rattle.itron.specs.declared.error.Error.{Error as Err}
+use Rattle.itron.specs.declared.error.Error.{Error as Refusal}
 use Rattle.itron.specs.declared.error.Error.TheVariants.{Oacv as e_oacv}
 use Rattle.itron.specs.Limits.{max_domains}
 use Rattle.model.specs.Lists.{at, total}
@@ -92,7 +92,7 @@ gave_enter l s i g = go i (check_entry s i)
       queues = ap (map (λ (x : Queue). x.vector)) f ∙ g.queues ∙ sym (append-nil (queue_vectors l)) ∙ ap (λ (k : List Vector). queue_vectors l ++ k) (sym b) ∙ sym (queues_append l (i ∷ []));
     }
 
-    go : (i : Entry) (o : Option Err) → Gave (l ++ when_ok [] (i ∷ []) (enter_by s i o).answer.code) (enter_by s i o).state
+    go : (i : Entry) (o : Option Refusal) → Gave (l ++ when_ok [] (i ∷ []) (enter_by s i o).answer.code) (enter_by s i o).state
     go i (some e) = subst (λ (k : List Entry). Gave k s) (sym (append-nil l)) g
     go (task d p) none = same (task d p) refl refl (add s (task d p)) refl refl
     go (sem d a b m v) none = record {

@@ -8,7 +8,7 @@ use Prim.Native.Nat.{ℕ}
 use native.Mathlib.Omega.{arith}
 use lib.ListN.{length}
 use Rattle.itron.specs.Codes.{Code, ok, waiting, error}
-use Rattle.itron.specs.declared.error.Error.{Error as Err}
+use Rattle.itron.specs.declared.error.Error.{Error as Refusal}
 use Rattle.itron.specs.declared.error.Error.TheVariants.{Oacv as e_oacv}
 use Rattle.model.specs.Lists.{at, put}
 use Rattle.model.specs.State.{TaskEntry, Waiter, Place, same_place}
@@ -38,7 +38,7 @@ Vacant ws (some p) = waiters_in ws p ≡ []
 
 -- ---- the endings of a call by task t on an object with the places `mine`, at which waiters stand in the order `order`: it begins the waits `starts`, serves the place `serves`, and leaves records that are Same
 pub data Ends (R : Type 0) (ts : List TaskEntry) (ws : List Waiter) (rs : List R) (t : ℕ) (mine order : Place → Bool) (Same : List R → Type 0) (starts : List Waiter) (serves : Code → Option Place) : Effect R → Type 0 where
-  refused : (e : Err) → e ≢ e_oacv → Ends R ts ws rs t mine order Same starts serves (refusal ws rs e)
+  refused : (e : Refusal) → e ≢ e_oacv → Ends R ts ws rs t mine order Same starts serves (refusal ws rs e)
   gives : (xs : List R) (w : ℕ) → Same xs → Vacant ws (serves ok) → Ends R ts ws rs t mine order Same starts serves (Waits.gives ws xs w)
   wakes : (xs : List R) (p : Place) (e : Waiter) (l : List Waiter) (w h : ℕ) → Same xs → mine p ≡ true → serves ok ≡ some p → standing (order p) ts (waiters_in ws p) ≡ e ∷ l
       → Ends R ts ws rs t mine order Same starts serves (Waits.wakes ws xs e w h)

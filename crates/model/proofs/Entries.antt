@@ -13,7 +13,7 @@ use lib.IntN.{ℤ, pos, negsuc}
 use Rattle.access.specs.Vectors.{resolved}
 use Rattle.access.specs.Vectors.{Choice}
 use Rattle.itron.specs.Codes.{ok, error}
-use Rattle.itron.specs.declared.error.Error.{Error as Err}
+use Rattle.itron.specs.declared.error.Error.{Error as Refusal}
 use Rattle.itron.specs.declared.error.Error.TheVariants.{Ctx as e_ctx, Id as e_id, Noid as e_noid, Rsatr as e_rsatr, Par as e_par, Obj as e_obj, Nomem as e_nomem}
 use Rattle.itron.specs.Limits.{max_domains, max_tasks, max_priority, max_semaphores, max_queues, max_regions, max_count, max_capacity, max_words, address_end}
 use Rattle.model.specs.Lists.{at}
@@ -132,30 +132,30 @@ told s (region d a b z v) =
 
 -- ---- first hit wins
 module _ (s : State) (e : Entry) where
-  by_check : (o : Option Err) → check_entry s e ≡ o → enter s e ≡ enter_by s e o
+  by_check : (o : Option Refusal) → check_entry s e ≡ o → enter s e ≡ enter_by s e o
   unfolding enter
   by_check o h = ap (enter_by s e) h
 
-  code_by : (x : Err) → check_entry s e ≡ some x → (enter s e).answer.code ≡ error x
+  code_by : (x : Refusal) → check_entry s e ≡ some x → (enter s e).answer.code ≡ error x
   code_by x h = ap (λ (o : Out). o.answer.code) (by_check (some x) h)
 
   -- what is left to check after each check
-  abbrev after_place : Option Err
+  abbrev after_place : Option Refusal
   after_place = refuse_if (not (tests_of s e).memory_ok) e_nomem none
 
-  abbrev after_numbers : Option Err
+  abbrev after_numbers : Option Refusal
   after_numbers = refuse_if (not (tests_of s e).place_ok) e_obj after_place
 
-  abbrev after_attribute : Option Err
+  abbrev after_attribute : Option Refusal
   after_attribute = refuse_if (not (tests_of s e).numbers_ok) e_par after_numbers
 
-  abbrev after_domain : Option Err
+  abbrev after_domain : Option Refusal
   after_domain = refuse_if (not (tests_of s e).attribute_ok) e_rsatr after_attribute
 
-  abbrev after_room : Option Err
+  abbrev after_room : Option Refusal
   after_room = refuse_if (not (tests_of s e).domain_ok) e_id after_domain
 
-  abbrev after_closed : Option Err
+  abbrev after_closed : Option Refusal
   after_closed = refuse_if (not (tests_of s e).has_room) e_noid after_room
 
   -- "table already closed: E_CTX"

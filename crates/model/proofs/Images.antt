@@ -13,7 +13,7 @@ use lib.IntN.{ℤ}
 use lib.ListN.{length, take, drop, get_or, length-drop}
 use lib.Seq.{length-take-le, get_or-take, get_or-drop, ext_get_or}
 use Rattle.itron.specs.Codes.{ok_number}
-use Rattle.itron.specs.declared.error.Error.{Error as Err}
+use Rattle.itron.specs.declared.error.Error.{Error as Refusal}
 use Rattle.itron.specs.declared.error.Error.TheVariants.{Ctx as e_ctx, Par as e_par, Noexs as e_noexs}
 use Rattle.itron.specs.Limits.{address_end}
 use Rattle.model.specs.State.{State, set_levels}
@@ -183,15 +183,15 @@ module _ (s : State) (d : ℤ) (base size : ℕ) (flash ram : Image) where
       lent = passes_on (true_tells s.fixed.closed) _ _ c ∙ passes_on (images_tells flash ram) _ _ l
 
       -- "If the verdict allows reading" (bit value 2): else its code
-      pub hand_refused : (e : Err) → verdict s d base size 2 ≡ some e → hand_out s d base size flash ram ≡ some e
-      hand_refused e h = lent ∙ ap (λ (o : Option Err). once_allowed o (refuse_if (not (is_held (holder flash ram base size))) e_noexs none)) h
+      pub hand_refused : (e : Refusal) → verdict s d base size 2 ≡ some e → hand_out s d base size flash ram ≡ some e
+      hand_refused e h = lent ∙ ap (λ (o : Option Refusal). once_allowed o (refuse_if (not (is_held (holder flash ram base size))) e_noexs none)) h
 
       module _ (v : verdict s d base size 2 ≡ none) where
         sized : 1 ≤ size
         sized = (ok_only s d base size 2 v).area.0.0
 
         allowed : hand_out s d base size flash ram ≡ refuse_if (not (is_held (holder flash ram base size))) e_noexs none
-        allowed = lent ∙ ap (λ (o : Option Err). once_allowed o (refuse_if (not (is_held (holder flash ram base size))) e_noexs none)) v
+        allowed = lent ∙ ap (λ (o : Option Refusal). once_allowed o (refuse_if (not (is_held (holder flash ram base size))) e_noexs none)) v
 
         -- "An area that the verdict allows but that isn't wholly in one image is E_NOEXS."
         pub hand_noexs : (Wholly base size flash → ⊥) → (Wholly base size ram → ⊥) → hand_out s d base size flash ram ≡ some e_noexs
@@ -225,9 +225,9 @@ module _ (s : State) (d : ℤ) (base size : ℕ) (flash ram : Image) where
             handed (inr w) ram (held_second flash ram base size f (Tests.holds (wholly_tells ram base size sized) w)) w
 
   -- "A refusal hands back an empty part"
-  pub refused_empty : (e : Err) → hand_out s d base size flash ram ≡ some e → handed_bytes s d base size flash ram ≡ []
+  pub refused_empty : (e : Refusal) → hand_out s d base size flash ram ≡ some e → handed_bytes s d base size flash ram ≡ []
   unfolding handed_bytes
-  refused_empty e h = ap (λ (o : Option Err). unless_refused o (part_of (holder flash ram base size) base size)) h
+  refused_empty e h = ap (λ (o : Option Refusal). unless_refused o (part_of (holder flash ram base size) base size)) h
 
 -- ---- E_OK only where the images can be lent, the verdict allows reading, and one of them has the whole area; then l is its part
 pub record HandedOut (s : State) (d : ℤ) (base size : ℕ) (flash ram : Image) (l : List ℕ) : Type 0 where
@@ -236,7 +236,7 @@ pub record HandedOut (s : State) (d : ℤ) (base size : ℕ) (flash ram : Image)
   pub allowed : verdict s d base size 2 ≡ none
   pub whole : (Wholly base size flash × Part flash base size l) ⊎ (Wholly base size ram × Part ram base size l)
 
-once_allowed_lem : (o r : Option Err) → once_allowed o r ≡ none → (o ≡ none) × (r ≡ none)
+once_allowed_lem : (o r : Option Refusal) → once_allowed o r ≡ none → (o ≡ none) × (r ≡ none)
 once_allowed_lem none r h = (refl, h)
 once_allowed_lem (some e) r h = absurd (let z : ◌≡◌ {A = ℕ} 0 1 = cc in omega arith)
 
@@ -275,7 +275,7 @@ pub record EmptyUnlessOk (code : ℤ) (l : List ℕ) : Type 0 where
 pub empty_exactly : (s : State) (d : ℤ) (base size : ℕ) (flash ram : Image) → EmptyUnlessOk (result_of (hand_out s d base size flash ram)) (handed_bytes s d base size flash ram)
 empty_exactly s d base size flash ram = go (hand_out s d base size flash ram) refl
   where
-    go : (o : Option Err) → hand_out s d base size flash ram ≡ o → EmptyUnlessOk (result_of o) (handed_bytes s d base size flash ram)
+    go : (o : Option Refusal) → hand_out s d base size flash ram ≡ o → EmptyUnlessOk (result_of o) (handed_bytes s d base size flash ram)
     go none h = record { empty = λ f. absurd (f refl); filled = λ e k. let n = handed_size s d base size flash ram h in let z = ap length k in omega (arith, n.0, n.1) }
     go (some e) h = record { empty = λ f. refused_empty s d base size flash ram e h; filled = λ k. absurd (refused k) }
       where
@@ -283,15 +283,15 @@ empty_exactly s d base size flash ram = go (hand_out s d base size flash ram) re
         refused k = let n = refusal_negative e in let z : ◌≡◌ {A = ℕ} 0 1 = cc n.1 in omega arith
 
 -- ---- these sentences leave nothing open: a code and bytes of which they hold are the hand-out's
-pub record Meets (s : State) (d : ℤ) (base size : ℕ) (flash ram : Image) (o : Option Err) (l : List ℕ) : Type 0 where
+pub record Meets (s : State) (d : ℤ) (base size : ℕ) (flash ram : Image) (o : Option Refusal) (l : List ℕ) : Type 0 where
   pub ctx : s.fixed.closed ≡ false → o ≡ some e_ctx
   pub par : s.fixed.closed ≡ true → (Lendable flash ram → ⊥) → o ≡ some e_par
-  pub refused : s.fixed.closed ≡ true → Lendable flash ram → (e : Err) → verdict s d base size 2 ≡ some e → o ≡ some e
+  pub refused : s.fixed.closed ≡ true → Lendable flash ram → (e : Refusal) → verdict s d base size 2 ≡ some e → o ≡ some e
   pub noexs : s.fixed.closed ≡ true → Lendable flash ram → verdict s d base size 2 ≡ none → (Wholly base size flash → ⊥) → (Wholly base size ram → ⊥) → o ≡ some e_noexs
   pub fine : s.fixed.closed ≡ true → Lendable flash ram → verdict s d base size 2 ≡ none → Wholly base size flash ⊎ Wholly base size ram → o ≡ none
   pub in_flash : s.fixed.closed ≡ true → Lendable flash ram → verdict s d base size 2 ≡ none → Wholly base size flash → Part flash base size l
   pub in_ram : s.fixed.closed ≡ true → Lendable flash ram → verdict s d base size 2 ≡ none → Wholly base size ram → Part ram base size l
-  pub none_handed : (e : Err) → o ≡ some e → l ≡ []
+  pub none_handed : (e : Refusal) → o ≡ some e → l ≡ []
 
 one_part : (i : Image) (base size : ℕ) (l m : List ℕ) → Part i base size l → Part i base size m → l ≡ m
 one_part i base size l m p q = ext_get_or 0 l m (p.count ∙ sym q.count) (λ k h. let n = p.count in p.each k (omega arith) ∙ sym (q.each k (omega arith)))
@@ -309,8 +309,8 @@ module _ (s : State) (d : ℤ) (base size : ℕ) (flash ram : Image) where
     none_handed = refused_empty s d base size flash ram;
   }
 
-  module _ (o q : Option Err) (l m : List ℕ) (t : Meets s d base size flash ram o l) (u : Meets s d base size flash ram q m) where
-    refusals : (e : Err) → o ≡ some e → q ≡ some e → (o ≡ q) × (l ≡ m)
+  module _ (o q : Option Refusal) (l m : List ℕ) (t : Meets s d base size flash ram o l) (u : Meets s d base size flash ram q m) where
+    refusals : (e : Refusal) → o ≡ some e → q ≡ some e → (o ≡ q) × (l ≡ m)
     refusals e h k = (h ∙ sym k, t.none_handed e h ∙ sym (u.none_handed e k))
 
     pub one_answer : (o ≡ q) × (l ≡ m)
@@ -329,7 +329,7 @@ module _ (s : State) (d : ℤ) (base size : ℕ) (flash ram : Image) where
             let y = (wholly_tells ram base size z).no g in
             refusals e_noexs (t.noexs c n v x y) (u.noexs c n v x y)
 
-        by_verdict : s.fixed.closed ≡ true → Lendable flash ram → (v : Option Err) → verdict s d base size 2 ≡ v → (o ≡ q) × (l ≡ m)
+        by_verdict : s.fixed.closed ≡ true → Lendable flash ram → (v : Option Refusal) → verdict s d base size 2 ≡ v → (o ≡ q) × (l ≡ m)
         by_verdict c n (some e) v = refusals e (t.refused c n e v) (u.refused c n e v)
         by_verdict c n none v = by_place c n v (lies_in flash base size) (lies_in ram base size) refl refl
 

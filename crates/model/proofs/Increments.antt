@@ -10,7 +10,7 @@ use lib.Dec.{eqb}
 use lib.IntN.{ℤ}
 use lib.ListN.{length, take}
 use Rattle.itron.specs.Codes.{Code, ok, waiting, error}
-use Rattle.itron.specs.declared.error.Error.{Error as Err}
+use Rattle.itron.specs.declared.error.Error.{Error as Refusal}
 use Rattle.model.specs.Lists.{keep, any_of, gathered}
 use Rattle.model.specs.State.{Vector, on_sem, receiving, sending, Waiter, State, place, queue_at, sem_at, level_at, waiter, no}
 use Rattle.model.specs.Answers.{Info, Released, when_ok}
@@ -100,7 +100,7 @@ module _ (s₀ s s' found : State) (h : History) (t : ℤ) (v : ℕ) (info : Inf
         go (error x) z = z ∙ append-nil before
 
     -- a refused call, whatever it is
-    pub refused_words : (op : Op) (e : Err) (rs : List Released) → More op (error e) rs → (queue_at s' q).buffer ≡ (queue_at s q).buffer
+    pub refused_words : (op : Op) (e : Refusal) (rs : List Released) → More op (error e) rs → (queue_at s' q).buffer ≡ (queue_at s q).buffer
     refused_words op e rs m = moved op (error e) rs m _ refl ∙ append-nil before
 
   module _ (n : ℤ) where
@@ -235,7 +235,7 @@ module _ (s₀ s s' found : State) (h : History) (t : ℤ) (v : ℕ) (info : Inf
     pub no_semaphore : (a : Act QueueCall) (k : Code) (rs : List Released) → More (on_queue n a) k rs → (i : ℕ) → (sem_at s' i).count ≡ (sem_at s i).count
     no_semaphore a k rs m i = uncounted k rs _ m i none refl refl refl
 
-  pub refused_count : (op : Op) (e : Err) (rs : List Released) → More op (error e) rs → (i : ℕ) → (sem_at s' i).count ≡ (sem_at s i).count
+  pub refused_count : (op : Op) (e : Refusal) (rs : List Released) → More op (error e) rs → (i : ℕ) → (sem_at s' i).count ≡ (sem_at s i).count
   refused_count op e rs m i = omega (arith, counts op (error e) rs m i _ refl)
 
   -- ---- the level of a task
@@ -268,7 +268,7 @@ module _ (s₀ s s' found : State) (h : History) (t : ℤ) (v : ℕ) (info : Inf
   unleveled : (x : ℕ) (b : Bool) (k : Code) → level_at s' x + cond b (when_ok 0 0 k) 0 ≡ level_at s x + cond b (when_ok 0 0 k) 0 → level_at s' x ≡ level_at s x
   unleveled x b k q = omega (arith, q)
 
-  pub refused_level : (op : Op) (e : Err) (rs : List Released) → More op (error e) rs → (u : ℕ) → level_at s' u ≡ level_at s u
+  pub refused_level : (op : Op) (e : Refusal) (rs : List Released) → More op (error e) rs → (u : ℕ) → level_at s' u ≡ level_at s u
   refused_level op e rs m u = unleveled u (eqb u (no t)) (error e) (levels_move op (error e) rs m u)
 
   pub waiting_level : (op : Op) (rs : List Released) → More op waiting rs → (u : ℕ) → level_at s' u ≡ level_at s u
@@ -304,7 +304,7 @@ module _ (s₀ s s' found : State) (h : History) (t : ℤ) (v : ℕ) (info : Inf
   pub nobody_joins : (op : Op) → More op ok [] → s'.waits ≡ s.waits
   nobody_joins op m = stand op ok [] m ∙ append-nil s.waits
 
-  pub refused_waits : (op : Op) (e : Err) → More op (error e) [] → s'.waits ≡ s.waits
+  pub refused_waits : (op : Op) (e : Refusal) → More op (error e) [] → s'.waits ≡ s.waits
   refused_waits op e m = stand op (error e) [] m ∙ append-nil s.waits
 
   -- a released task leaves, and nobody else does

@@ -12,7 +12,7 @@ use borrow.Author.Tests.{leb-false}
 use Rattle.access.proofs.Laws.{running_inside}
 use Rattle.access.specs.Domains.{running_of}
 use Rattle.itron.specs.Codes.{Code, ok, waiting, error}
-use Rattle.itron.specs.declared.error.Error.{Error as Err}
+use Rattle.itron.specs.declared.error.Error.{Error as Refusal}
 use Rattle.itron.specs.declared.error.Error.TheVariants.{Ctx as e_ctx, Sys as e_sys}
 use Rattle.itron.specs.Limits.{max_level}
 use Rattle.model.specs.Lists.{at, put, All, total}
@@ -66,7 +66,7 @@ levels_law s c = go c.op ((asks c.op).check s (no c.caller))
     t : ℕ
     t = no c.caller
 
-    go : (op : Op) (o : Option Err) → (act_if s t (asks op) o).state.levels ≡ levels_by s t (extended_of op) (act_if s t (asks op) o).answer.code
+    go : (op : Op) (o : Option Refusal) → (act_if s t (asks op) o).state.levels ≡ levels_by s t (extended_of op) (act_if s t (asks op) o).answer.code
     go (on_semaphore n a) none = refl
     go (on_semaphore n a) (some e) = refl
     go (on_queue n a) none = refl
@@ -102,7 +102,7 @@ module _ (s : State) (each : length s.levels ≡ length s.fixed.tasks) (t u : �
   left h true e = let z = ap (level_at s) (eq_of u t e) in let p = can_leave (level_at s t) h in omega arith
   left h false e = refl
 
-  moved : (op : Op) (o : Option Err) → (asks op).check s t ≡ o
+  moved : (op : Op) (o : Option Refusal) → (asks op).check s t ≡ o
       → level_at (act_if s t (asks op) o).state u + cond (eqb u t) (when_ok 0 (of_extended leave_in (extended_of op)) (act_if s t (asks op) o).answer.code) 0
       ≡ level_at s u + cond (eqb u t) (when_ok 0 (of_extended enter_in (extended_of op)) (act_if s t (asks op) o).answer.code) 0
   moved op (some e) h = refl
@@ -124,7 +124,7 @@ bounded_step s f c = go c.op ((asks c.op).check s t) refl
     t : ℕ
     t = no c.caller
 
-    go : (op : Op) (o : Option Err) → (asks op).check s t ≡ o → All (λ (k : ℕ). k ≤ max_level) (act_if s t (asks op) o).state.levels
+    go : (op : Op) (o : Option Refusal) → (asks op).check s t ≡ o → All (λ (k : ℕ). k ≤ max_level) (act_if s t (asks op) o).state.levels
     go op (some e) h = f
     go (on_semaphore n a) none h = f
     go (on_queue n a) none h = f

@@ -11,7 +11,7 @@ use lib.IntN.{ℤ}
 use borrow.Author.Tests.{leb-false}
 use Rattle.access.specs.Domains.{same_domain}
 use Rattle.access.specs.Vectors.{same_vector}
-use Rattle.itron.specs.declared.error.Error.{Error as Err}
+use Rattle.itron.specs.declared.error.Error.{Error as Refusal}
 use Rattle.itron.specs.declared.error.Error.TheVariants.{Ctx as e_ctx, Id as e_id, Par as e_par, Obj as e_obj, Macv as e_macv}
 use Rattle.model.specs.Answers.{refuse_if}
 use Rattle.model.specs.State.{Region, State, set_fixed, set_regions}
@@ -122,7 +122,7 @@ pub count_as_one : (s : State) (before : List Region) (r x : Region) (behind : L
 unfolding verdict judge
 count_as_one s before r x behind j d base size w =
     ap
-    (λ (o : Option Err). refuse_if (not s.fixed.closed) e_ctx (refuse_if (not (owns_task s.fixed.count d)) e_id (refuse_if (not (area_ok base size w)) e_par o)))
+    (λ (o : Option Refusal). refuse_if (not s.fixed.closed) e_ctx (refuse_if (not (owns_task s.fixed.count d)) e_id (refuse_if (not (area_ok base size w)) e_par o)))
     (by_all r x j d base size w before behind)
 
 -- "chains of any length too"

@@ -10,7 +10,7 @@ use lib.Dec.{eqb, ltb}
 use lib.ListN.{length, take, drop, length-map}
 use borrow.Author.Tests.{ltb-true, ltb-false}
 use Rattle.itron.specs.Codes.{Code, ok, waiting, error}
-use Rattle.itron.specs.declared.error.Error.{Error as Err}
+use Rattle.itron.specs.declared.error.Error.{Error as Refusal}
 use Rattle.itron.specs.declared.error.Error.TheVariants.{Iluse as e_iluse, Tmout as e_tmout}
 use Rattle.model.specs.Lists.{All, at, keep, cons_if}
 use Rattle.model.specs.State.{TaskEntry, Queue, Waiter, receiving, sending, place, no_task, no_queue}
@@ -169,7 +169,7 @@ module _ (line : ℕ → ℕ) (c : ℕ) (h : List (Made QueueCall)) (b : List �
         (none_enters line m h (ap (keep unforced) e))
 
   -- a call that is refused
-  pub refused_moves : (t : ℕ) (a : Option (Act QueueCall)) (x : Option ExtendedCall) (e : Err) → Moves c line (record { caller = t; asked = a; extended = x; answer = say (error e) 0 [] }) h b
+  pub refused_moves : (t : ℕ) (a : Option (Act QueueCall)) (x : Option ExtendedCall) (e : Refusal) → Moves c line (record { caller = t; asked = a; extended = x; answer = say (error e) 0 [] }) h b
   refused_moves t a x e = moves_none (record { caller = t; asked = a; extended = x; answer = say (error e) 0 [] }) b refl refl refl refl (waits_on (waiting_sends h)) refl
 
   -- a call on another object, which leaves this queue's buffer and senders as they were

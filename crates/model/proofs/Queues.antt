@@ -11,7 +11,7 @@ use lib.Dec.{eqb, ltb}
 use borrow.Author.Tests.{ltb-true, ltb-false}
 use Rattle.access.specs.Vectors.{pattern_of}
 use Rattle.itron.specs.Codes.{error, waiting}
-use Rattle.itron.specs.declared.error.Error.{Error as Err}
+use Rattle.itron.specs.declared.error.Error.{Error as Refusal}
 use Rattle.itron.specs.declared.error.Error.TheVariants.{Oacv as e_oacv, Iluse as e_iluse, Tmout as e_tmout}
 pub use Rattle.model.specs.Conditions.{QView, qview, qview_of, QueueOk}
 use Rattle.model.specs.Lists.{All}
@@ -280,7 +280,7 @@ begins_plain s t q h r (send p w) = (((h, tt), r), tt)
 begins_plain s t q h r (receive p) = (((h, refl), r), tt)
 begins_plain s t q h r (forced_send w) = (((h, tt), r), tt)
 
-pub serves_no : (q : ℕ) (e : Err) (c : QueueCall) → serves q c (error e) ≡ none
+pub serves_no : (q : ℕ) (e : Refusal) (c : QueueCall) → serves q c (error e) ≡ none
 serves_no q e (send p w) = refl
 serves_no q e (receive p) = refl
 serves_no q e (forced_send w) = refl

@@ -3,7 +3,7 @@ use mathlib.Core.Path.{◌≡◌, refl, ap}
 use mathlib.Core.Bool.{true}
 use mathlib.Core.Option.{Option, none, some}
 use lib.IntN.{ℤ}
-use Rattle.itron.specs.declared.error.Error.{Error as Err}
+use Rattle.itron.specs.declared.error.Error.{Error as Refusal}
 use Rattle.model.specs.State.{State, no}
 use Rattle.model.specs.Answers.{Out, reply_of, plain, code_of}
 use Rattle.model.specs.Acts.{refer}
@@ -15,7 +15,7 @@ module _ (m : State) (z : ℤ) (op : Op) (h : (asks op).is_refer ≡ true) where
   unfolding step
   refer_state = go ((asks op).check m (no z))
     where
-      go : (o : Option Err) → (act_if m (no z) (asks op) o).state ≡ m
+      go : (o : Option Refusal) → (act_if m (no z) (asks op) o).state ≡ m
       go (some e) = refl
       go none = ap (λ (o : Out). o.state) ((lawful op).refers m (no z) h)
 
@@ -23,7 +23,7 @@ module _ (m : State) (z : ℤ) (op : Op) (h : (asks op).is_refer ≡ true) where
   unfolding step
   refer_reply = go ((asks op).check m (no z))
     where
-      go : (o : Option Err) → plain (code_of (act_if m (no z) (asks op) o).answer.code) 0 ≡ reply_of (act_if m (no z) (asks op) o).answer
+      go : (o : Option Refusal) → plain (code_of (act_if m (no z) (asks op) o).answer.code) 0 ≡ reply_of (act_if m (no z) (asks op) o).answer
       go (some e) = refl
       go none = rw ((lawful op).refers m (no z) h) refl
 

@@ -12,7 +12,7 @@ use lib.ListN.{length, get_or}
 use Rattle.itron.specs.Limits.{min_unit}
 use Rattle.access.specs.Patterns.{admitted}
 use Rattle.itron.specs.Codes.{Code, ok, waiting, error}
-use Rattle.itron.specs.declared.error.Error.{Error as Err}
+use Rattle.itron.specs.declared.error.Error.{Error as Refusal}
 use Rattle.itron.specs.declared.error.Error.TheVariants.{Sys as e_sys, Oacv as e_oacv, Qovr as e_qovr, Tmout as e_tmout}
 use Rattle.model.specs.Lists.{at, gathered}
 use Rattle.model.specs.State.{Vector, TaskEntry, Queue, on_sem, receiving, sending, Place, Waiter, State, state_with, set_waits, set_sems, set_queues, set_levels, place, side_number, waiter}
@@ -355,7 +355,7 @@ pub waits_uncalled : Demand3 start [] (table (waiter 3 on_sem 1 0 ∷ []) 0 []) 
 waits_uncalled d = let e : ◌≡◌ {A = ℕ} 1 0 = ap length d.waiters_are in omega arith
 
 -- ---- a release belongs to a wait
-refused_done : {e : Err} → error e ≡ ok → ⊥
+refused_done : {e : Refusal} → error e ≡ ok → ⊥
 refused_done h = let z : ◌≡◌ {A = ℕ} 0 1 = cc in omega arith
 
 -- one waiting receive, released by two sends

@@ -7,7 +7,7 @@ use native.Mathlib.Omega.{arith}
 use lib.IntN.{pos}
 use lib.ListN.{length}
 use Rattle.itron.specs.Codes.{ok, waiting, error}
-use Rattle.itron.specs.declared.error.Error.{Error as Err}
+use Rattle.itron.specs.declared.error.Error.{Error as Refusal}
 use Rattle.model.specs.declared.Outcome.TheVariants as Outcome
 use Rattle.model.specs.Lists.{All}
 use Rattle.model.specs.State.{Place, Waiter, State}
@@ -33,7 +33,7 @@ pub shows_waiting : reply_of (answers waiting 0 []) ≡ record { outcome = Outco
 shows_waiting = refl
 
 -- "Each refusal .. gives back .. word 0, no released task"
-pub shows_refusal : (e : Err) → reply_of (refuses e) ≡ record { outcome = outcome_of (error e); word = 0; released = record { task = 0; word = 0 } }
+pub shows_refusal : (e : Refusal) → reply_of (refuses e) ≡ record { outcome = outcome_of (error e); word = 0; released = record { task = 0; word = 0 } }
 shows_refusal e = refl
 
 -- ---- "at most one released task": no call releases two, and 0 stands for none

@@ -11,7 +11,7 @@ use lib.IntN.{ℤ}
 use lib.ListN.{length}
 use Rattle.access.specs.Vectors.{pattern_of}
 use Rattle.itron.specs.Codes.{Code, ok, waiting, error}
-use Rattle.itron.specs.declared.error.Error.{Error as Err}
+use Rattle.itron.specs.declared.error.Error.{Error as Refusal}
 use Rattle.itron.specs.declared.error.Error.TheVariants.{Ctx as e_ctx, Id as e_id, Par as e_par, Noexs as e_noexs, Oacv as e_oacv}
 use Rattle.model.specs.Lists.{at, All}
 use Rattle.model.specs.State.{Vector, TaskEntry, Waiter, Side, on_sem, receiving, sending, Place, State, set_waits, set_levels, running_at, no}
@@ -82,7 +82,7 @@ pub record RoomLaws {C R : Type 0} (r : Room C R) : Type 0 where
   -- the wait that a call begins is on its object, which is registered if the checks found it, and has a word only if it sends; a refused call serves nobody
   pub begun : (t n : ℕ) (c : C) → All (λ (e : Waiter). is_at tag n e.place ≡ true) (r.begins t n c)
   pub plain : (s : State) (t n : ℕ) → n ≢ 0 → n ≤ length (r.records s) → (c : C) → All (λ (e : Waiter). Plain e × Registered s e) (r.begins t n c)
-  pub unserved : (n : ℕ) (e : Err) (c : C) → r.serves n c (error e) ≡ none
+  pub unserved : (n : ℕ) (e : Refusal) (c : C) → r.serves n c (error e) ≡ none
   -- a refer tells of tasks that wait
   pub told_first : (ts : List TaskEntry) (ws : List Waiter) (xs : List R) (n m : ℕ) → ((b : Bool) (p : Place) → first_task (standing b ts (waiters_in ws p)) ≤ m) → (r.told ts ws xs n).first ≤ m
   pub told_second : (ts : List TaskEntry) (ws : List Waiter) (xs : List R) (n m : ℕ) → ((b : Bool) (p : Place) → first_task (standing b ts (waiters_in ws p)) ≤ m) → (r.told ts ws xs n).second ≤ m

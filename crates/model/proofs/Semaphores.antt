@@ -10,7 +10,7 @@ use lib.Dec.{leb}
 use lib.ListN.{length}
 use Rattle.access.specs.Vectors.{pattern_of}
 use Rattle.itron.specs.Codes.{error, waiting}
-use Rattle.itron.specs.declared.error.Error.{Error as Err}
+use Rattle.itron.specs.declared.error.Error.{Error as Refusal}
 use Rattle.itron.specs.declared.error.Error.TheVariants.{Qovr as e_qovr, Tmout as e_tmout}
 use Rattle.model.specs.Lists.{All}
 use Rattle.model.specs.State.{Vector, TaskEntry, Sem, Waiter, State, Place, Side, receiving, sending, on_sem, place, waiter, no_sem, zero_vector}
@@ -130,7 +130,7 @@ pub begins_plain : (s : State) (t i : ℕ) → i ≢ 0 → i ≤ length s.sems �
 begins_plain s t i h r signal = tt
 begins_plain s t i h r (acquire p) = (((h, refl), r), tt)
 
-pub serves_no : (i : ℕ) (e : Err) (c : SemaphoreCall) → serves i c (error e) ≡ none
+pub serves_no : (i : ℕ) (e : Refusal) (c : SemaphoreCall) → serves i c (error e) ≡ none
 serves_no i e signal = refl
 serves_no i e (acquire p) = refl
 

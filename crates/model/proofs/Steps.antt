@@ -4,7 +4,7 @@ use mathlib.Core.Bool.{Bool, true, false}
 use mathlib.Core.List.{List, [], ◌∷◌, ◌++◌, append-nil}
 use Prim.Native.Nat.{ℕ}
 use Rattle.itron.specs.Codes.{Code, ok, waiting, error}
-use Rattle.itron.specs.declared.error.Error.{Error as Err}
+use Rattle.itron.specs.declared.error.Error.{Error as Refusal}
 use Rattle.model.specs.State.{Waiter, State}
 use Rattle.model.specs.Answers.{no_info, Out, when_waiting}
 use Rattle.model.specs.Waits.{is_other}
@@ -61,14 +61,14 @@ fixed_law s c = ends s (FixedLaw s) (record {
 
 -- ---- a refusal changes nothing
 abbrev KeptLaw : State → ℕ → Asks → Out → Type 0
-KeptLaw s t x o = (e : Err) → o.answer.code ≡ error e → o.state ≡ s
+KeptLaw s t x o = (e : Refusal) → o.answer.code ≡ error e → o.state ≡ s
 
 abbrev is_error : Code → Bool
 is_error ok = false
 is_error waiting = false
 is_error (error e) = true
 
-unlike_code : {X : Type 0} {c : Code} {e : Err} → is_error c ≡ false → c ≡ error e → X
+unlike_code : {X : Type 0} {c : Code} {e : Refusal} → is_error c ≡ false → c ≡ error e → X
 unlike_code {e} h q = absurd (no_both {b = is_error (error e)} refl (ap is_error (sym q) ∙ h))
 
 kept_ends : (s : State) → Endings s (KeptLaw s)
@@ -80,7 +80,7 @@ kept_ends s = record {
   waits = λ t x e h c z p b v y q. unlike_code refl q;
 }
 
-pub kept_law : (s : State) (c : Call) (e : Err) → (step s c).answer.code ≡ error e → (step s c).state ≡ s
+pub kept_law : (s : State) (c : Call) (e : Refusal) → (step s c).answer.code ≡ error e → (step s c).state ≡ s
 kept_law s c = ends s (KeptLaw s) (kept_ends s) c
 
 -- ---- only a refer tells numbers

@@ -11,7 +11,7 @@ use lib.Dec.{leb}
 use lib.IntN.{ℤ, pos, negsuc}
 use borrow.Author.Tests.{leb-true}
 use Rattle.itron.specs.Codes.{ok, error}
-use Rattle.itron.specs.declared.error.Error.{Error as Err}
+use Rattle.itron.specs.declared.error.Error.{Error as Refusal}
 use Rattle.model.specs.Answers.{refuse_if}
 use Rattle.model.specs.Conditions.{BufferFits, Bounded, Ascending, Whole, TaskEntryFits, SemEntryFits, QueueEntryFits, RegionEntryFits, Spent, NoWords, QueueOk, qview_of, Sound}
 use Rattle.model.specs.Lists.{at}
@@ -26,11 +26,11 @@ use Rattle.model.proofs.Lists.{and_left, and_right, no_both, map_append, all_sno
 use Rattle.model.proofs.Units.{unit_one}
 use Rattle.model.proofs.Entries.{told}
 
-pass : (b : Bool) (e : Err) (r : Option Err) → refuse_if (not b) e r ≡ none → (b ≡ true) × (r ≡ none)
+pass : (b : Bool) (e : Refusal) (r : Option Refusal) → refuse_if (not b) e r ≡ none → (b ≡ true) × (r ≡ none)
 pass false e r h = absurd (let z : ◌≡◌ {A = Bool} true false = cc in no_both {b = true} refl z)
 pass true e r h = (refl, h)
 
-open_of : (b : Bool) (e : Err) (r : Option Err) → refuse_if b e r ≡ none → (b ≡ false) × (r ≡ none)
+open_of : (b : Bool) (e : Refusal) (r : Option Refusal) → refuse_if b e r ≡ none → (b ≡ false) × (r ≡ none)
 open_of true e r h = absurd (let z : ◌≡◌ {A = Bool} true false = cc in no_both {b = true} refl z)
 open_of false e r h = (refl, h)
 
@@ -176,7 +176,7 @@ pub sound_enter : (s : State) (i : Entry) → Sound s → Sound (enter s i).stat
 unfolding enter
 sound_enter s i k = go (check_entry s i) refl
   where
-    go : (o : Option Err) → check_entry s i ≡ o → Sound (enter_by s i o).state
+    go : (o : Option Refusal) → check_entry s i ≡ o → Sound (enter_by s i o).state
     go (some e) h = k
     go none h = sound_add s i k (taken s i h)
 
@@ -227,18 +227,18 @@ sound_close s k = go s.fixed.closed refl
     }
 
 -- ---- a refused entry or closing changes nothing
-done_no : {X : Type 0} {e : Err} → ok ≡ error e → X
+done_no : {X : Type 0} {e : Refusal} → ok ≡ error e → X
 done_no h = absurd (let z : ◌≡◌ {A = ℕ} 0 1 = cc in omega arith)
 
-pub enter_kept : (s : State) (i : Entry) (e : Err) → (enter s i).answer.code ≡ error e → (enter s i).state ≡ s
+pub enter_kept : (s : State) (i : Entry) (e : Refusal) → (enter s i).answer.code ≡ error e → (enter s i).state ≡ s
 unfolding enter
 enter_kept s i e h = go (check_entry s i) h
   where
-    go : (o : Option Err) → (enter_by s i o).answer.code ≡ error e → (enter_by s i o).state ≡ s
+    go : (o : Option Refusal) → (enter_by s i o).answer.code ≡ error e → (enter_by s i o).state ≡ s
     go (some x) q = refl
     go none q = done_no q
 
-pub close_kept : (s : State) (e : Err) → (close s).answer.code ≡ error e → (close s).state ≡ s
+pub close_kept : (s : State) (e : Refusal) → (close s).answer.code ≡ error e → (close s).state ≡ s
 unfolding close
 close_kept s e h = go s.fixed.closed h
   where

@@ -9,7 +9,7 @@ use lib.ListN.{length, get_or}
 use borrow.Author.Tests.{le-leb, lt-leb}
 use Rattle.access.specs.Domains.{ordinal_of}
 use Rattle.std.specs.Prelude.{Result, Ok, Err as Refused}
-use Rattle.itron.specs.declared.error.Error.{Error as Err}
+use Rattle.itron.specs.declared.error.Error.{Error as Refusal}
 use Rattle.itron.specs.declared.error.Error.TheVariants.{Id as e_id, Noexs as e_noexs}
 use Rattle.model.specs.declared.check.Target.{Target}
 use Rattle.model.specs.State.{no}
@@ -25,5 +25,5 @@ module _ {C R : Type 0} (r : Room C R) (xs : List R) (z : ℤ) where
     pub missing : length xs < k → Refused e_noexs ≡ target_in r xs (no z)
     missing l = let w = within z r.most k e n in rw (w.test, w.same, lt-leb (suc (k - 1)) (length xs) (omega arith))
 
-    pub found : k ≤ length xs → ◌≡◌ {A = Result Target Err} (Ok (record { object = k - 1; vector = r.vector (get_or xs (k - 1) r.nothing) })) (target_in r xs (no z))
+    pub found : k ≤ length xs → ◌≡◌ {A = Result Target Refusal} (Ok (record { object = k - 1; vector = r.vector (get_or xs (k - 1) r.nothing) })) (target_in r xs (no z))
     found l = let w = within z r.most k e n in rw (w.test, w.same, le-leb (suc (k - 1)) (length xs) (omega arith))

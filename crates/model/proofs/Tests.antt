@@ -7,7 +7,7 @@ use Prim.Native.Nat.{ℕ, ◌≤◌, ◌<◌}
 use native.Mathlib.Omega.{arith}
 use lib.Dec.{eqb, ltb, leb}
 use borrow.Author.Tests.{ltb-true, ltb-false, leb-true, leb-false}
-use Rattle.itron.specs.declared.error.Error.{Error as Err}
+use Rattle.itron.specs.declared.error.Error.{Error as Refusal}
 use Rattle.model.specs.Answers.{refuse_if}
 use Rattle.model.proofs.Lists.{eq_of, ne_of, no_both, and_left, and_right, both}
 
@@ -74,7 +74,7 @@ pub not_tells : {b : Bool} {P : Type 0} → Tells b P → Tells (not b) (P → �
 not_tells {b} t = record { yes = λ h p. no_both h (ap not (holds t p)); no = λ h f. no_both (ap not (fails t f)) h }
 
 -- first hit wins
-module _ {b : Bool} {P : Type 0} (t : Tells b P) (e : Err) (r : Option Err) where
+module _ {b : Bool} {P : Type 0} (t : Tells b P) (e : Refusal) (r : Option Refusal) where
   pub passes_on : P → refuse_if (not b) e r ≡ r
   passes_on p = ap (λ (c : Bool). refuse_if (not c) e r) (holds t p)
 
@@ -82,7 +82,7 @@ module _ {b : Bool} {P : Type 0} (t : Tells b P) (e : Err) (r : Option Err) wher
   stops_at f = ap (λ (c : Bool). refuse_if (not c) e r) (fails t f)
 
   -- another code is a later check's
-  pub later : {x : Err} → e ≢ x → refuse_if (not b) e r ≡ some x → P × (r ≡ some x)
+  pub later : {x : Refusal} → e ≢ x → refuse_if (not b) e r ≡ some x → P × (r ≡ some x)
   later {x} d h = go b refl h
     where
       go : (c : Bool) → b ≡ c → refuse_if (not c) e r ≡ some x → P × (r ≡ some x)
@@ -98,5 +98,5 @@ module _ {b : Bool} {P : Type 0} (t : Tells b P) (e : Err) (r : Option Err) wher
       go false k g = absurd (let z : ◌≡◌ {A = ℕ} 0 1 = cc in omega arith)
 
 -- the last check's code tells that it failed
-pub stopped : {b : Bool} {P : Type 0} {x : Err} → Tells b P → (e : Err) → refuse_if (not b) e none ≡ some x → P → ⊥
+pub stopped : {b : Bool} {P : Type 0} {x : Refusal} → Tells b P → (e : Refusal) → refuse_if (not b) e none ≡ some x → P → ⊥
 stopped t e h p = let k = passes_on t e none p in let z : ◌≡◌ {A = ℕ} 0 1 = cc in omega arith

@@ -3,7 +3,7 @@ use Rattle.std.specs.Prelude.{Bool, true, false}
 use Rattle.std.proofs.Math.Option.{Option, none}
 use Rattle.access.specs.declared.vector.Operation.{Operation}
 use Rattle.access.specs.declared.vector.Operation.TheVariants.{Management, Reference}
-use Rattle.itron.specs.declared.error.Error.{Error as Err}
+use Rattle.itron.specs.declared.error.Error.{Error as Refusal}
 use Rattle.model.specs.State.{Vector}
 
 -- ---- an object of any kind has its own calls, C, which its room names; it can be referred to, and its vector can be set
@@ -34,7 +34,7 @@ is_refer (set_vector v) = false
 pub record Slots : Type 0 where
   pub arguments : Bool
   pub numbers : Bool
-  pub misuse : Option Err
+  pub misuse : Option Refusal
 
 -- nothing
 abbrev pub clear : Slots

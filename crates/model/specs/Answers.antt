@@ -2,7 +2,7 @@
 use Rattle.std.specs.Prelude.{Bool, true, false, List, [], ◌∷◌, ℕ, ℤ}
 use Rattle.std.proofs.Math.Option.{Option, none, some}
 use Rattle.itron.specs.Codes.{Code, ok, waiting, error, ok_number, number_of}
-use Rattle.itron.specs.declared.error.Error.{Error as Err}
+use Rattle.itron.specs.declared.error.Error.{Error as Refusal}
 pub use Rattle.model.specs.declared.Released.{Released}
 pub use Rattle.model.specs.declared.Info.{Info}
 pub use Rattle.model.specs.declared.Reply.{Reply}
@@ -32,14 +32,14 @@ abbrev pub say : Code → ℕ → List Released → Answer
 say c w rs = record { code = c; word = w; released = rs; info = no_info }
 
 -- a refusal gives back the state it got, word 0, no released task, and for a refer all numbers 0 and a vector of zeros
-abbrev pub refuse : State → Err → Out
+abbrev pub refuse : State → Refusal → Out
 refuse s e = out (say (error e) 0 []) s
 
 abbrev pub done : State → Out
 done s = out (say ok 0 []) s
 
 -- checks in order, first hit wins
-abbrev pub refuse_if : Bool → Err → Option Err → Option Err
+abbrev pub refuse_if : Bool → Refusal → Option Refusal → Option Refusal
 refuse_if true e r = some e
 refuse_if false e r = r
 
@@ -100,6 +100,6 @@ code_of waiting = ok_number
 code_of (error e) = number_of e
 
 -- the number that checks give: the first refusal's, or E_OK
-abbrev pub result_of : Option Err → ℤ
+abbrev pub result_of : Option Refusal → ℤ
 result_of none = ok_number
 result_of (some e) = number_of e

@@ -1,7 +1,7 @@
 -- Calls on an open gateway (document 01): which calls there are, and one call. Definitions only.
 use Rattle.std.proofs.Math.Option.{Option, none, some}
 use Rattle.std.specs.Prelude.{ℕ, ℤ}
-use Rattle.itron.specs.declared.error.Error.{Error as Err}
+use Rattle.itron.specs.declared.error.Error.{Error as Refusal}
 use Rattle.model.specs.declared.Request.{Request}
 use Rattle.model.specs.declared.Request.TheVariants as Requests
 use Rattle.model.specs.State.{State, no}
@@ -41,7 +41,7 @@ asks (on_queue n a) = on_object Queues.room n a
 asks (on_level c) = of_level c
 
 -- ---- one call: the checks, then the effect
-abbrev pub act_if : State → ℕ → Asks → Option Err → Out
+abbrev pub act_if : State → ℕ → Asks → Option Refusal → Out
 act_if s t x (some e) = refuse s e
 act_if s t x none = x.act s t
 

@@ -1,7 +1,7 @@
 -- Extended service calls: a task enters a checked library routine, which runs as the kernel domain, and leaves it (request T-03). Definitions only.
 use Rattle.std.specs.Prelude.{false, not, ◌&&◌, [], ℕ, suc, ◌-◌, eqb, leb}
 use Rattle.std.proofs.Math.Option.{Option, none}
-use Rattle.itron.specs.declared.error.Error.{Error as Err}
+use Rattle.itron.specs.declared.error.Error.{Error as Refusal}
 use Rattle.itron.specs.declared.error.Error.TheVariants.{Ctx as e_ctx, Sys as e_sys}
 use Rattle.itron.specs.Limits.{max_level}
 pub use Rattle.model.specs.declared.svc.ExtendedCall.{ExtendedCall}
@@ -12,7 +12,7 @@ use Rattle.model.specs.Answers.{Out, done, no_info, refuse_if}
 use Rattle.model.specs.Rooms.{ready, Asks}
 
 -- "entering at 255 is E_SYS, leaving at 0 is E_CTX"
-abbrev pub level_check : ExtendedCall → ℕ → Option Err
+abbrev pub level_check : ExtendedCall → ℕ → Option Refusal
 level_check Enter k = refuse_if (leb max_level k) e_sys none
 level_check Leave k = refuse_if (eqb k 0) e_ctx none
 
@@ -22,7 +22,7 @@ level_after Enter k = suc k
 level_after Leave k = k - 1
 
 -- first hit wins: table not closed, or caller not a registered ready task: E_CTX; then the level
-unfoldable pub check : State → ℕ → ExtendedCall → Option Err
+unfoldable pub check : State → ℕ → ExtendedCall → Option Refusal
 check s t c = refuse_if (not (s.fixed.closed && ready s t)) e_ctx (level_check c (level_at s t))
 
 -- then the caller has another level

@@ -1,7 +1,7 @@
 -- Handing out the bytes of an area out of two lent images (document 02, T-13). Definitions only.
 use Rattle.std.specs.Prelude.{Bool, true, false, cond, not, ◌&&◌, ◌||◌, List, [], ℕ, ◌+◌, ◌-◌, eqb, leb, ℤ, length, take, drop}
 use Rattle.std.proofs.Math.Option.{Option, none, some}
-use Rattle.itron.specs.declared.error.Error.{Error as Err}
+use Rattle.itron.specs.declared.error.Error.{Error as Refusal}
 use Rattle.itron.specs.declared.error.Error.TheVariants.{Ctx as e_ctx, Par as e_par, Noexs as e_noexs}
 use Rattle.itron.specs.Limits.{address_end}
 use Rattle.model.specs.State.{State}
@@ -55,12 +55,12 @@ abbrev pub read_alone : ℕ
 read_alone = 2
 
 -- what the verdict refuses, and where it allows, what is found then
-abbrev pub once_allowed : Option Err → Option Err → Option Err
+abbrev pub once_allowed : Option Refusal → Option Refusal → Option Refusal
 once_allowed none r = r
 once_allowed (some e) r = some e
 
 -- first hit wins: table not closed E_CTX; bad images E_PAR; then the verdict on reading; an area that is not wholly in one image E_NOEXS
-unfoldable pub hand_out : State → ℤ → ℕ → ℕ → Image → Image → Option Err
+unfoldable pub hand_out : State → ℤ → ℕ → ℕ → Image → Image → Option Refusal
 hand_out s d base size flash ram =
     refuse_if (not s.fixed.closed) e_ctx
     (refuse_if (not (images_ok flash ram)) e_par
@@ -77,7 +77,7 @@ part_of none base size = []
 part_of (some i) base size = part_in i base size
 
 -- a refusal hands back an empty part
-abbrev pub unless_refused : Option Err → List ℕ → List ℕ
+abbrev pub unless_refused : Option Refusal → List ℕ → List ℕ
 unless_refused none l = l
 unless_refused (some e) l = []
 

@@ -5,7 +5,7 @@ use Rattle.access.specs.Domains.{same_domain}
 use Rattle.access.specs.Patterns.{admitted, bit_at}
 use Rattle.access.specs.Vectors.{same_vector, resolved}
 use Rattle.access.specs.Vectors.{Choice}
-use Rattle.itron.specs.declared.error.Error.{Error as Err}
+use Rattle.itron.specs.declared.error.Error.{Error as Refusal}
 use Rattle.itron.specs.declared.error.Error.TheVariants.{Par as e_par, Noexs as e_noexs, Obj as e_obj, Macv as e_macv}
 use Rattle.itron.specs.Limits.{address_end}
 use Rattle.model.specs.Lists.{any_of, beginnings}
@@ -117,7 +117,7 @@ from_holder [] a = []
 from_holder (r ∷ rs) a = cond (holds a r) (r ∷ rs) (from_holder rs a)
 
 -- no region holds the base: E_NOEXS; the area leaves the chain of that region: E_OBJ; a wish denied: E_MACV
-abbrev pub judge_in : List Region → ℤ → ℕ → ℕ → ℕ → Option Err
+abbrev pub judge_in : List Region → ℤ → ℕ → ℕ → ℕ → Option Refusal
 judge_in [] d base size w = some e_noexs
 judge_in (r ∷ rs) d base size w = refuse_if (not (in_chain (r ∷ rs) (base + size))) e_obj (refuse_if (not (allows r d w)) e_macv none)
 
@@ -126,5 +126,5 @@ abbrev pub area_ok : ℕ → ℕ → ℕ → Bool
 area_ok base size w = leb 1 size && wishes_ok w && leb (base + size) address_end
 
 -- the verdict on a closed table for a known domain
-unfoldable pub judge : List Region → ℤ → ℕ → ℕ → ℕ → Option Err
+unfoldable pub judge : List Region → ℤ → ℕ → ℕ → ℕ → Option Refusal
 judge rs d base size w = refuse_if (not (area_ok base size w)) e_par (judge_in (from_holder rs base) d base size w)

@@ -5,7 +5,7 @@ use Rattle.access.specs.Patterns.{admitted}
 use Rattle.access.specs.Vectors.{pattern_of}
 use Rattle.access.specs.declared.vector.Operation.{Operation}
 use Rattle.itron.specs.Codes.{Code}
-use Rattle.itron.specs.declared.error.Error.{Error as Err}
+use Rattle.itron.specs.declared.error.Error.{Error as Refusal}
 use Rattle.itron.specs.declared.error.Error.TheVariants.{Ctx as e_ctx, Id as e_id, Par as e_par, Noexs as e_noexs, Oacv as e_oacv}
 use Rattle.model.specs.Lists.{at, put}
 use Rattle.model.specs.State.{Vector, TaskEntry, Place, Waiter, State, running_at, no}
@@ -57,7 +57,7 @@ module _ {C R : Type 0} (r : Room C R) where
 
   -- first hit wins: table not closed, or caller not a registered ready task: E_CTX; number out of range: E_ID; bad arguments: E_PAR; not registered: E_NOEXS;
   -- numbers that do not fit the object: E_PAR; caller's running domain not admitted: E_OACV; then the use of the object
-  unfoldable pub check : State → ℕ → ℕ → Act C → Option Err
+  unfoldable pub check : State → ℕ → ℕ → Act C → Option Refusal
   check s t n a =
       refuse_if (not (s.fixed.closed && ready s t)) e_ctx
       (refuse_if (not (in_range r.most n)) e_id
@@ -85,7 +85,7 @@ module _ {C R : Type 0} (r : Room C R) where
 -- ---- what a call is, whatever it asks of whom
 pub record Asks : Type 0 where
   -- the checks of a call by task t, and what it does once they are passed
-  pub check : State → ℕ → Option Err
+  pub check : State → ℕ → Option Refusal
   pub act : State → ℕ → Out
   -- whether it is a refer, and what that tells
   pub is_refer : Bool

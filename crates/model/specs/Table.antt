@@ -2,7 +2,7 @@
 use Rattle.std.specs.Prelude.{Bool, true, false, not, ◌&&◌, [], ◌∷◌, ◌++◌, ℕ, zero, suc, length, eqb, ltb, leb, ℤ, pos, negsuc}
 use Rattle.std.proofs.Math.Option.{Option, none, some}
 use Rattle.access.specs.Vectors.{Choice}
-use Rattle.itron.specs.declared.error.Error.{Error as Err}
+use Rattle.itron.specs.declared.error.Error.{Error as Refusal}
 use Rattle.itron.specs.declared.error.Error.TheVariants.{Ctx as e_ctx, Id as e_id, Noid as e_noid, Rsatr as e_rsatr, Par as e_par, Obj as e_obj, Nomem as e_nomem}
 use Rattle.itron.specs.Limits.{max_domains, max_tasks, max_priority, max_semaphores, max_queues, max_regions, min_unit}
 use Rattle.model.specs.State.{TaskEntry, State, state_with, set_fixed, set_sems, set_queues, set_levels, set_closed, set_tasks, set_regions}
@@ -69,7 +69,7 @@ tests_of s (region d a b z v) =
     }
 
 -- checks, first hit wins
-abbrev pub check_entry : State → Entry → Option Err
+abbrev pub check_entry : State → Entry → Option Refusal
 check_entry s e =
     refuse_if s.fixed.closed e_ctx
     (refuse_if (not (tests_of s e).has_room) e_noid
@@ -90,7 +90,7 @@ add s (queue d a c v) = set_queues s (s.queues ++ (Queues.new_queue d a c v ∷ 
 add s (region d a b z v) = set_fixed s (set_regions s.fixed (s.fixed.regions ++ (Regions.new_region d a b z v ∷ [])))
 
 -- one entry
-abbrev pub enter_by : State → Entry → Option Err → Out
+abbrev pub enter_by : State → Entry → Option Refusal → Out
 enter_by s e (some x) = refuse s x
 enter_by s e none = done (add s e)
 

@@ -4,7 +4,7 @@ use Rattle.model.specs.Lists.{at, keep, arrange}
 use Rattle.model.specs.State.{TaskEntry, Place, Waiter, State, Side, on_sem, receiving, sending, same_place, place, no_task, sem_at, queue_at}
 use Rattle.model.specs.Answers.{Released, Effect, effect, say}
 use Rattle.itron.specs.Codes.{ok, waiting, error}
-use Rattle.itron.specs.declared.error.Error.{Error as Err}
+use Rattle.itron.specs.declared.error.Error.{Error as Refusal}
 use Rattle.itron.specs.declared.error.Error.TheVariants.{Tmout as e_tmout}
 pub use Rattle.model.specs.declared.Patience.{Patience}
 pub use Rattle.model.specs.declared.Patience.TheVariants.{Polling as polling, Forever as forever}
@@ -73,7 +73,7 @@ freed e w = record { task = e.task; word = w } ∷ []
 -- ---- how a call on an object of any kind can end
 module _ {R : Type 0} (ws : List Waiter) (rs : List R) where
   -- a refusal changes nothing
-  abbrev pub refusal : Err → Effect R
+  abbrev pub refusal : Refusal → Effect R
   refusal e = effect (say (error e) 0 []) ws rs
 
   -- the caller gets a word, the waiting task e is released with another

@@ -1,6 +1,6 @@
 -- What a request of a semaphore gives, as the program gives it. Definitions only.
 use Rattle.std.specs.Prelude.{List, Result}
-use Rattle.itron.specs.declared.error.Error.{Error as Err}
+use Rattle.itron.specs.declared.error.Error.{Error as Refusal}
 use Rattle.model.specs.State.{TaskEntry}
 use Rattle.model.specs.declared.sem.Semaphore.{Semaphore}
 use Rattle.model.specs.declared.sem.SemaphoreCall.{SemaphoreCall}
@@ -20,5 +20,5 @@ abbrev pub effect_as : List TaskEntry → Model.Effect Semaphore → Effect Sema
 effect_as = Any.effect_as sems_as
 
 -- what the checks refuse, or what the act does
-abbrev pub acted : Tasks → Semaphores → Act SemaphoreCall → Result Admitted Err → Effect Semaphores
+abbrev pub acted : Tasks → Semaphores → Act SemaphoreCall → Result Admitted Refusal → Effect Semaphores
 acted = Any.acted room sems_as sems_of
