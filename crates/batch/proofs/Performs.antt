@@ -27,6 +27,13 @@ answer_small {s} v {c} d =
     let b = small (view_of s) v.sound.fit c in
     subst (λ (x : Answer). (x.released.task ≤ max_tasks) × (x.info.first ≤ max_tasks) × (x.info.second ≤ max_tasks)) (sym d.same) (b.released, b.first, b.second)
 
+-- ---- past the last of a list
+pub beyond : {A : Type 0} (l : List A) (n : ℕ) → length l < n → nth l n ≡ none
+beyond l zero h = refl
+beyond [] (suc n) h = refl
+beyond (x ∷ l) (suc zero) h = absurd (omega arith)
+beyond (x ∷ l) (suc (suc n)) h = beyond l (suc n) (omega arith)
+
 -- ---- an answer's words, and the state after it
 pub does : {s : State} {c : Call} {a : Answer} {r : Made} → Does s c a → r ≡ answer_made a → Performs s (some c) r
 does {s} {a} {r} d e =
