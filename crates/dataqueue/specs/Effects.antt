@@ -9,15 +9,15 @@ use Rattle.model.specs.Acts.{Act}
 use Rattle.model.specs.Queues.{room}
 use Rattle.tasks.specs.declared.state.Tasks.{Tasks}
 use Rattle.tasks.specs.declared.effect.Effect.{Effect}
-use Rattle.tasks.specs.Effects as Any
+use Rattle.tasks.specs.Effects as OfAnyKind
 use Rattle.dataqueue.specs.declared.state.Queues.{Queues}
 use Rattle.dataqueue.specs.View.{queues_of}
 use Rattle.dataqueue.specs.Form.{queues_as}
 
 -- the model's effect, with the tasks, which have these entries, and the queues in their form
 abbrev pub effect_as : List TaskEntry → Model.Effect Queue → Effect Queues
-effect_as = Any.effect_as queues_as
+effect_as = OfAnyKind.effect_as queues_as
 
 -- what the checks refuse, or what the act does
 abbrev pub acted : Tasks → Queues → Act QueueCall → Result Admitted Refusal → Effect Queues
-acted = Any.acted room queues_as queues_of
+acted = OfAnyKind.acted room queues_as queues_of

@@ -10,15 +10,15 @@ use Rattle.model.specs.Acts.{Act}
 use Rattle.model.specs.Semaphores.{room}
 use Rattle.tasks.specs.declared.state.Tasks.{Tasks}
 use Rattle.tasks.specs.declared.effect.Effect.{Effect}
-use Rattle.tasks.specs.Effects as Any
+use Rattle.tasks.specs.Effects as OfAnyKind
 use Rattle.semaphore.specs.declared.state.Semaphores.{Semaphores}
 use Rattle.semaphore.specs.View.{sems_of}
 use Rattle.semaphore.specs.Form.{sems_as}
 
 -- the model's effect, with the tasks, which have these entries, and the semaphores in their form
 abbrev pub effect_as : List TaskEntry → Model.Effect Semaphore → Effect Semaphores
-effect_as = Any.effect_as sems_as
+effect_as = OfAnyKind.effect_as sems_as
 
 -- what the checks refuse, or what the act does
 abbrev pub acted : Tasks → Semaphores → Act SemaphoreCall → Result Admitted Refusal → Effect Semaphores
-acted = Any.acted room sems_as sems_of
+acted = OfAnyKind.acted room sems_as sems_of

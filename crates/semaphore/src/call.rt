@@ -22,6 +22,7 @@ use tasks::state::Tasks;
 use tasks::task::Wait;
 
 // Signal.
+#[tactic(auto, using(crate::proofs::Back::count_seen))]
 pub(crate) fn signal(tasks: Tasks, semaphores: Semaphores, object: usize) -> Effect<Semaphores>
     requires { TasksHeld.Held tasks × Held semaphores × (object < length (sems_of semaphores)) }
     ensures { result ≡ effect_as (entries_of tasks) (on_signal (entries_of tasks) (waits_of tasks) (sems_of semaphores) (suc object)) }
@@ -40,6 +41,7 @@ pub(crate) fn signal(tasks: Tasks, semaphores: Semaphores, object: usize) -> Eff
 }
 
 // Poll and wait.
+#[tactic(auto, using(crate::proofs::Back::count_seen))]
 pub(crate) fn acquire(
     tasks: Tasks,
     semaphores: Semaphores,
@@ -79,6 +81,7 @@ pub(crate) fn own(
 }
 
 // Refer.
+#[tactic(auto, using(crate::proofs::Back::count_seen))]
 pub(crate) fn refer(tasks: Tasks, semaphores: Semaphores, object: usize) -> Effect<Semaphores>
     requires { TasksHeld.Held tasks × Held semaphores × (object < length (sems_of semaphores)) }
     ensures { result ≡ effect_as (entries_of tasks) (Model.effect (Model.tells (told (entries_of tasks) (waits_of tasks) (sems_of semaphores) (suc object))) (waits_of tasks) (sems_of semaphores)) }

@@ -1,5 +1,4 @@
 -- `call::refer` meets its contract. Assumes nothing.
-use borrow.Author.Rules.{rules}
 use Prim.Native.Nat.{suc}
 use mathlib.Core.Path.{ap, ◌∙◌}
 use mathlib.Core.Bool.{Bool}
@@ -12,15 +11,9 @@ use Rattle.tasks.specs.View.{entries_of, waits_of}
 use Rattle.tasks.proofs.Rooms.{tells_by}
 use Rattle.semaphore.specs.View.{sems_of}
 use Rattle.semaphore.specs.Form.{sems_as}
-use Rattle.semaphore.proofs.Back.{count_seen, get_seen}
+use Rattle.semaphore.proofs.Back.{get_seen}
 use Rattle.semaphore.proofs.Effects.{effect}
 use Rattle.semaphore.proofs.call.refer.Goals as goal
-
-pub offset_bounds-semaphores-object : goal.offset_bounds-semaphores-object
-offset_bounds-semaphores-object c = let e = count_seen c.requires.1 in search rules
-
-pub bounds-semaphores-object : goal.bounds-semaphores-object
-bounds-semaphores-object c = let e = count_seen c.requires.1 in search rules
 
 pub returns : goal.returns
 returns c =

@@ -1,5 +1,4 @@
 -- `call::signal` meets its contract. Assumes nothing.
-use borrow.Author.Rules.{rules}
 use Prim.Native.Nat.{suc}
 use mathlib.Core.Path.{◌≡◌, sym, ap, ◌∙◌}
 use mathlib.Core.Bool.{Bool}
@@ -15,16 +14,10 @@ use Rattle.tasks.specs.Effects.{done_with}
 use Rattle.tasks.proofs.Firsts.{Waits, waits, no_first}
 use Rattle.semaphore.specs.declared.state.Semaphores.{Semaphores}
 use Rattle.semaphore.specs.View.{sems_of}
-use Rattle.semaphore.proofs.Back.{count_seen, get_seen}
+use Rattle.semaphore.proofs.Back.{get_seen}
 use Rattle.semaphore.proofs.Effects.{signal_wakes_lem, signal_full_lem, signal_counts_lem}
 use Rattle.semaphore.proofs.call.signal.Goals as goal
 use Rattle.semaphore.proofs.call.signal.Goals.{Start, After-first, In-Some, In_default}
-
-pub offset_bounds-semaphores-object : goal.offset_bounds-semaphores-object
-offset_bounds-semaphores-object c = let e = count_seen c.requires.1 in search rules
-
-pub bounds-semaphores-object : goal.bounds-semaphores-object
-bounds-semaphores-object c = let e = count_seen c.requires.1 in search rules
 
 -- the first who waits is asked for in the order that the attribute says
 asked : (c : After-first) → let a = c.args in c.first.result ≡ first_of (waiters_of (entries_of a.tasks) (waits_of a.tasks) (sems_of a.semaphores) (suc a.object))
