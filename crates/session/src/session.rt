@@ -5,7 +5,7 @@ ghost use Rattle.kernel.specs.Valid.{Valid};
 use crate::flaw::write_flaw;
 use crate::perform::perform;
 use command::flaw::Flaw;
-use command::line::Line;
+use command::line::{Gathered, Line};
 use command::parse::Command;
 use command::request::{Asked, requested};
 use kernel::state::State;
@@ -82,12 +82,16 @@ impl Session {
         requires { Valid self.old.state }
         ensures { Valid self.new.state }
     {
-        for byte in block {
-            if *byte == b'\n' {
-                self.make(out, true)?;
-            } else {
-                self.line = self.line.pushed(*byte);
-            }
+        let mut from = 0;
+        // Each round but the last takes a line's LF.
+        for _ in 0..=block.len() {
+            let Gathered { line, next } = self.line.gathered(block, from);
+            self.line = line;
+            let Some(next) = next else {
+                break;
+            };
+            self.make(out, true)?;
+            from = next;
         }
         Ok(())
     }

@@ -1,19 +1,21 @@
 -- Who calls, and the task with a number. Assumes nothing.
 use Prim.Native.Nat.{ℕ, suc, ◌-◌, ◌≤◌, ◌<◌}
 use native.Mathlib.Omega.{arith}
-use mathlib.Core.Path.{◌≡◌, sym, ap, ◌∙◌}
+use mathlib.Core.Path.{◌≡◌, refl, sym, ap, ◌∙◌}
+use mathlib.Core.List.{List, ◌∷◌, ◌++◌}
 use mathlib.Core.Logic.{◌≢◌}
 use mathlib.Core.Bool.{true, false, not, ◌&&◌, and-false}
 use lib.Dec.{eqb, leb}
 use lib.IntN.{ℤ}
-use lib.ListN.{length, get_or}
+use lib.ListN.{length, get_or, length-append}
 use borrow.Author.Tests.{le-leb, lt-leb, ne_eqb}
 use Rattle.access.specs.Domains.{ordinal_of, numbered}
 use Rattle.access.proofs.Ordinals.{numbered_none, numbered_some}
 use Rattle.itron.specs.Limits.{max_tasks}
 use Rattle.model.specs.Lists.{at}
 use Rattle.model.specs.Waits.{absent}
-use Rattle.model.specs.State.{no, no_task as no_entry}
+use Rattle.model.specs.State.{TaskEntry, Waiter, no, no_task as no_entry}
+use Rattle.model.proofs.Places.{nth}
 use Rattle.model.proofs.Ordinals.{outside, within, Within}
 use Rattle.tasks.specs.declared.task.Task.{Task}
 use Rattle.tasks.specs.declared.state.Tasks.{Tasks}
@@ -68,3 +70,9 @@ module _ {t : Tasks} (h : Held t) (n : ℕ) where
       let i : n ≡ suc (n - 1) = omega arith in
       entry_seen h (n - 1) (omega arith)
       ∙ sym (rw (ne_eqb n 0 z, le-leb n (length (entries_of t)) (omega arith)) (λ j. task_as (at no_entry (entries_of t) (i j)) (wait_for (i j) (waits_of t))))
+
+-- ---- what is shown of a task, whatever its number: its entry's domain and priority
+pub shown_entry : (l m : List TaskEntry) (x : TaskEntry) (ws : List Waiter) → ((task_of (l ++ (x ∷ m)) ws (suc (length l))).domain ≡ x.domain) × ((task_of (l ++ (x ∷ m)) ws (suc (length l))).priority ≡ x.priority)
+shown_entry l m x ws =
+    let c = length-append l (x ∷ m) in
+    rw (ne_eqb (suc (length l)) 0 (λ e. omega (arith, e)), le-leb (suc (length l)) (length (l ++ (x ∷ m))) (omega (arith, c)), nth no_entry x l m) (refl, refl)

@@ -2,5 +2,5 @@
 use Rattle.kernel.specs.Valid.{Valid}
 use Rattle.session.proofs.session.Session.take.Given as goal
 
-abbrev pub invariant-loop-byte : goal.invariant-loop-byte
-invariant-loop-byte g l = Valid l.self.state
+abbrev pub invariant-loop : goal.invariant-loop
+invariant-loop g l = Valid l.self.state
