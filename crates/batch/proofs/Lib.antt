@@ -1,4 +1,3 @@
-pub mod Words
 pub mod Performs
 pub mod Loops
 pub mod Apart

@@ -87,24 +87,6 @@ loop_next {s} {ws} {old} {state} {words} {k} {r} h p =
     subst (λ (j : ℕ). Loop s ws old r.state (paste words (k * answer_words) r.words answer_words) j) z
     (record { valid = p.valid; seen = e; written = w })
 
--- the slice keeps its length
-pub loop_length : {s : State} {ws old : List ℕ} {state : State} {words : List ℕ} {k : ℕ} → Loop s ws old state words k → k * answer_words ≤ length old → length words ≡ length old
-loop_length {s} {ws} {old} {state} {words} {k} h l =
-    let a = ap (λ (z : List ℕ). length z) h.written in
-    let b = length-append (answers_of (view_of s) (items_in ws k)) (drop (k * answer_words) old) in
-    let c = answers_length (view_of s) ws k in
-    let d = length-drop (k * answer_words) old in
-    omega arith
-
--- what is answered is held, and has room
-pub answerable_room : (calls answers : ℕ) → (answerable calls answers ≤ groups calls) × (answerable calls answers * answer_words ≤ answers)
-answerable_room calls answers = go (ltb (answers / answer_words) (groups calls)) refl
-  where
-    go : (b : Bool) → ltb (answers / answer_words) (groups calls) ≡ b
-        → (cond b (answers / answer_words) (groups calls) ≤ groups calls) × (cond b (answers / answer_words) (groups calls) * answer_words ≤ answers)
-    go true e = let h = ltb-true (answers / answer_words) (groups calls) e in (omega arith, omega arith)
-    go false e = let h = ltb-false (answers / answer_words) (groups calls) e in (omega arith, omega arith)
-
 -- after all items the promise is met
 pub loop_end : {s : State} {ws old : List ℕ} {state : State} {words : List ℕ} {k made : ℕ} → made ≡ answerable (length ws) (length old) → k ≡ made
     → Loop s ws old state words k → Runs s ws old words (record { answered = made; state = state })

@@ -6,8 +6,6 @@ use mathlib.Core.List.{List, [], ◌∷◌}
 use mathlib.Core.Option.{none, some}
 use mathlib.Core.Logic.{◌⊎◌, inl, inr, ⊎_elim}
 use lib.ListN.{length}
-use types.Run.{OneOf}
-use denote.Enum.Declared.{tag_of}
 use mir.Syntax.{w32}
 use mir.Val.{of_z, to_z}
 use Rattle.itron.specs.Limits.{max_tasks}
@@ -29,35 +27,12 @@ answer_small {s} v {c} d =
     let b = small (view_of s) v.sound.fit c in
     subst (λ (x : Answer). (x.released.task ≤ max_tasks) × (x.info.first ≤ max_tasks) × (x.info.second ≤ max_tasks)) (sym d.same) (b.released, b.first, b.second)
 
--- ---- numbers as they are read back from their words
-abbrev pub reread : Numbers → Numbers
-reread q = record { function = q.function; caller = q.caller; object = to_z w32 (of_z w32 q.object); word = q.word; vector = q.vector }
-
-pub meant : (q : Numbers) (n : ℕ) → reread q ≡ q → q.function ≡ n → nth (meanings (reread q)) n ≡ item_of q
-meant q n e h = ap (λ (x : Numbers). nth (meanings x) n) e ∙ ap (nth (meanings q)) (sym h)
-
--- a function that is none of the first n numbers, and no call
-abbrev pub Unlike : ℕ → ℕ → Type 0
-Unlike zero x = Unit
-Unlike (suc n) x = Unlike n x × (x ≡ suc n → ⊥)
-
-outside : (n x : ℕ) → Unlike n x → (x ≡ 0) ⊎ (n < x)
-outside zero zero u = inl refl
-outside zero (suc x) u = inr (omega arith)
-outside (suc n) x u = go (outside n x u.0)
-  where
-    go : (x ≡ 0) ⊎ (n < x) → (x ≡ 0) ⊎ (suc n < x)
-    go (inl e) = inl e
-    go (inr l) = inr (omega (arith, u.1))
-
+-- ---- past the last of a list
 pub beyond : {A : Type 0} (l : List A) (n : ℕ) → length l < n → nth l n ≡ none
 beyond l zero h = refl
 beyond [] (suc n) h = refl
 beyond (x ∷ l) (suc zero) h = absurd (omega arith)
 beyond (x ∷ l) (suc (suc n)) h = beyond l (suc n) (omega arith)
-
-pub meant_nothing : (q : Numbers) → Unlike (length (meanings q)) q.function → none ≡ item_of q
-meant_nothing q u = ⊎_elim (λ e. ap (nth (meanings q)) (sym e)) (λ l. sym (beyond (meanings q) q.function l)) (outside (length (meanings q)) q.function u)
 
 -- ---- an answer's words, and the state after it
 pub does : {s : State} {c : Call} {a : Answer} {r : Made} → Does s c a → r ≡ answer_made a → Performs s (some c) r

@@ -28,6 +28,7 @@ use model::dtq::{QueueCall, QueueRequest};
 use tasks::effect::Effect;
 
 impl State {
+    #[tactic(auto, using(crate::proofs::Back::queues_held))]
     pub(crate) fn check_queue(self, given: QueueEntry) -> Result<(), Error>
         requires { Valid self }
         ensures { result ≡ passed (check_entry (view_of self) (queue given.domain given.attribute given.capacity given.vector)) }
@@ -168,6 +169,7 @@ impl State {
         self.with_queues(self.queue_effect(caller, id, QueueRequest::SetVector(vector)))
     }
 
+    #[tactic(auto, using(crate::proofs::Back::queues_held))]
     pub fn queue(self, number: usize) -> QueueInfo
         requires { Valid self }
         ensures { result ≡ info_of (queue_at (view_of self) number) }
@@ -177,6 +179,7 @@ impl State {
     }
 
     // A queue's buffered word with k older ones; 0 past the last.
+    #[tactic(auto, using(crate::proofs::Back::queues_held))]
     pub fn word(self, number: usize, k: usize) -> u32
         requires { Valid self }
         ensures { result ≡ get_or (queue_at (view_of self) number).buffer k 0 }

@@ -21,6 +21,7 @@ use regions::flag::READ;
 use regions::state::RegionInfo;
 
 impl State {
+    #[tactic(auto, using(crate::proofs::Back::regions_held))]
     pub(crate) fn check_region(self, given: RegionEntry) -> Result<(), Error>
         requires { Valid self }
         ensures { result ≡ passed (check_entry (view_of self) (region given.domain given.attribute given.base given.size given.vector)) }
@@ -132,6 +133,7 @@ impl State {
         part
     }
 
+    #[tactic(auto, using(crate::proofs::Back::regions_held))]
     pub fn region(self, number: usize) -> RegionInfo
         requires { Valid self }
         ensures { result ≡ info_of (at no_region (view_of self).fixed.regions number) }

@@ -26,6 +26,7 @@ pub struct Summary {
 }
 
 impl State {
+    #[tactic(auto, using(crate::proofs::Back::tasks_held, crate::proofs::Back::sems_held, crate::proofs::Back::queues_held, crate::proofs::Back::regions_held))]
     pub fn summary(self) -> Summary
         requires { Valid self }
         ensures { result ≡ summary_of (view_of self) }
@@ -46,6 +47,7 @@ impl State {
     }
 
     // A task's domain and priority, and what it does.
+    #[tactic(auto, using(crate::proofs::Back::tasks_held))]
     pub fn task(self, number: usize) -> Task
         requires { Valid self }
         ensures { result ≡ task_of (view_of self).fixed.tasks (view_of self).waits number }

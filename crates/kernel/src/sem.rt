@@ -28,6 +28,7 @@ use semaphore::state::Semaphores;
 use tasks::effect::Effect;
 
 impl State {
+    #[tactic(auto, using(crate::proofs::Back::sems_held))]
     pub(crate) fn check_semaphore(self, given: SemaphoreEntry) -> Result<(), Error>
         requires { Valid self }
         ensures { result ≡ passed (check_entry (view_of self) (sem given.domain given.attribute given.start given.max given.vector)) }
@@ -149,6 +150,7 @@ impl State {
         self.with_semaphores(self.semaphore_effect(caller, id, SemaphoreRequest::SetVector(vector)))
     }
 
+    #[tactic(auto, using(crate::proofs::Back::sems_held))]
     pub fn semaphore(self, number: usize) -> Semaphore
         requires { Valid self }
         ensures { result ≡ sem_at (view_of self) number }

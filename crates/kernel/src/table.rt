@@ -84,6 +84,7 @@ impl State {
         Ok(())
     }
 
+    #[tactic(auto, using(crate::proofs::Back::tasks_held))]
     pub(crate) fn check_task(self, domain: i32, priority: u32) -> Result<(), Error>
         requires { Valid self }
         ensures { result ≡ passed (check_entry (view_of self) (task domain priority)) }

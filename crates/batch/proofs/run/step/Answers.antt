@@ -4,18 +4,11 @@ use mathlib.Core.Path.{◌≡◌, sym, ap, ◌∙◌, subst}
 use mathlib.Core.Bool.{Bool, cond}
 use mathlib.Core.Option.{Option, none}
 use lib.ListN.{length}
-use borrow.Author.Tests.{lt-leb, le-leb}
+use borrow.Author.Tests.{le-leb}
 use Rattle.model.specs.Calls.{Call}
 use Rattle.batch.specs.Encoding.{call_words, numbers_at, item_of, item_at}
 use Rattle.batch.specs.Made.{Performs}
 use Rattle.batch.proofs.run.step.Goals as goal
-
-pub returns-then-calls-at : goal.returns-then-calls-at
-returns-then-calls-at c =
-    let a = c.args in
-    let ws = a.calls.now in
-    let e : none ≡ item_at ws a.k = sym (ap (λ (b : Bool). cond b (item_of (numbers_at ws (a.k * call_words))) none) (lt-leb (a.k * call_words + call_words) (length ws) c.if-calls-at.true)) in
-    subst (λ (x : Option Call). Performs a.state x c.refused.result) e c.refused.ensures
 
 pub returns : goal.returns
 returns c =

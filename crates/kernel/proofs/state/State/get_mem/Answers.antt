@@ -1,5 +1,5 @@
 -- `State::get_mem` meets its contract. Assumes nothing.
-use mathlib.Core.Path.{◌≡◌, sym, ap, ◌∙◌}
+use mathlib.Core.Path.{sym, ap, ◌∙◌}
 use mathlib.Core.List.{[]}
 use mir.Facts.{to_z-of_z}
 use Rattle.std.specs.Prelude.{option_copied, unwrap_or}
