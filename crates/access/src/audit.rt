@@ -23,6 +23,7 @@ impl Admissions {
 
 #[derive(Clone, Copy)]
 pub struct AuditReport {
+    // An i32, and zeros beside a refusal, by document 01 ("Where each form goes"; "E_PAR, all numbers 0").
     pub code: i32,
     pub normal1: Admissions,
     pub normal2: Admissions,

@@ -54,6 +54,7 @@ fn send<F: FnOnce(u32) -> QueueCall>(numbers: Numbers, call: F) -> Result<Comman
     Ok(Command::Call(task, Request::Queue(queue, request)))
 }
 
+// Each kind has its own request for it.
 fn set_vector(numbers: Numbers) -> Result<Command, Flaw> {
     let (task, queue) = numbers.call(2 + PATTERNS)?;
     let request = QueueRequest::SetVector(numbers.vector(3)?);

@@ -7,7 +7,7 @@ pub const SIZE: usize = 256;
 
 const LF: u8 = b'\n';
 
-// Some bytes, in fixed memory.
+// Some bytes, in fixed memory, and Copy, as the session that holds a line is.
 #[derive(Clone, Copy)]
 pub struct Line {
     bytes: [u8; SIZE],

@@ -87,7 +87,7 @@ impl<'a> Numbers<'a> {
         })
     }
 
-    // An entry's vector, which may be left out.
+    // An entry's vector, which may be left out; one form with `optional` would take a closure for each of the two.
     pub(crate) fn choice(self, place: usize) -> Result<Option<Vector>, Flaw>
         requires { place ≤ 8 }
     {

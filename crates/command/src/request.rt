@@ -11,7 +11,7 @@ pub struct Asked {
     pub echo: Line,
 }
 
-// What a line asks, given whether an LF ended it: a CR goes only before an LF.
+// What a line asks, given whether an LF ended it: a CR goes only before an LF. An enum of two would be longer than this flag.
 pub fn requested(line: Line, ended: bool) -> Asked {
     if line.is_full() {
         return Asked {

@@ -21,7 +21,7 @@ pub(crate) fn named(word: &[u8], numbers: Numbers) -> Option<Result<Command, Fla
     Some(command)
 }
 
-// Domain, attribute, start and max, and the vector if that is given.
+// Domain, attribute, start and max, and the vector if that is given. Each kind has its own names for its numbers.
 fn entry(numbers: Numbers) -> Result<Command, Flaw> {
     numbers.counted(4, 4 + PATTERNS)?;
     let entry = SemaphoreEntry {
@@ -44,6 +44,7 @@ fn own(numbers: Numbers, call: SemaphoreCall) -> Result<Command, Flaw> {
     asked(numbers, SemaphoreRequest::Own(call))
 }
 
+// Each kind has its own request for it.
 fn set_vector(numbers: Numbers) -> Result<Command, Flaw> {
     let (task, semaphore) = numbers.call(2 + PATTERNS)?;
     let request = SemaphoreRequest::SetVector(numbers.vector(3)?);

@@ -8,7 +8,7 @@ use model::Outcome;
 use std::{fmt, io};
 use text::code::Code;
 
-// What a call answers, as text.
+// What a call answers, as text; a first program needs no crate that writes the others' answers.
 #[derive(Clone, Copy)]
 struct Told(Outcome);
 

@@ -38,6 +38,7 @@ impl State {
         queues.check(given.attribute, given.capacity)
     }
 
+    // As for every kind: a form that all share would take a closure over the state for these four lines.
     pub fn add_queue(mut self, given: QueueEntry) -> Entered
         requires { Valid self }
         ensures { Enters self (enter (view_of self) (queue given.domain given.attribute given.capacity given.vector)) result }
@@ -85,7 +86,7 @@ impl State {
         }
     }
 
-    // Any request of a data queue. The calls below do not use it: measured, what several of them share copies the whole state.
+    // Any request of a data queue. The calls below, each under its name in μITRON, do not use it: measured, what several of them share copies the whole state.
     pub(crate) fn on_queue(mut self, caller: i32, id: i32, request: QueueRequest) -> Answer
         requires { Valid self }
         ensures { Does self (call caller (on_queue id (act_of request))) result }
@@ -178,7 +179,7 @@ impl State {
         queues.queue(number)
     }
 
-    // A queue's buffered word with k older ones; 0 past the last.
+    // A queue's buffered word with k older ones; 0 past the last, as every query shows zeros for what is not there.
     #[tactic(auto, using(crate::proofs::Back::queues_held))]
     pub fn word(self, number: usize, k: usize) -> u32
         requires { Valid self }

@@ -31,6 +31,7 @@ impl State {
         regions.check(given.attribute, given.base, given.size)
     }
 
+    // As for every kind: a form that all share would take a closure over the state for these four lines.
     pub fn add_region(mut self, given: RegionEntry) -> Entered
         requires { Valid self }
         ensures { Enters self (enter (view_of self) (region given.domain given.attribute given.base given.size given.vector)) result }
@@ -59,7 +60,7 @@ impl State {
         regions.judge(domain, base, size, wishes)
     }
 
-    // The verdict's code; it gives no state back.
+    // The verdict's code, an i32 by document 01; it gives no state back.
     pub fn prb_mem(self, domain: i32, base: u32, size: u32, wishes: u32) -> i32
         requires { Valid self }
         ensures { result ≡ result_of (verdict (view_of self) domain base size wishes) }
@@ -94,7 +95,7 @@ impl State {
         Ok(())
     }
 
-    // The code of handing out an area.
+    // The code of handing out an area, an i32 by document 01.
     pub fn get_mem_code<'a>(
         self,
         domain: i32,

@@ -68,7 +68,7 @@ impl State {
         }
     }
 
-    // The task that waits on that side of an object with k tasks ahead; 0 past the last.
+    // The task that waits on that side of an object with k tasks ahead; 0 past the last, as in answers.
     pub fn waiter(self, side: Side, number: usize, k: usize) -> usize
         requires { Valid self }
         ensures { result ≡ get_or (map task_in (wait_queue (view_of self) (place side number))) k 0 }

@@ -38,6 +38,7 @@ impl State {
         entry::check(given.attribute, given.start, given.max)
     }
 
+    // As for every kind: a form that all share would take a closure over the state for these four lines.
     pub fn add_semaphore(mut self, given: SemaphoreEntry) -> Entered
         requires { Valid self }
         ensures { Enters self (enter (view_of self) (sem given.domain given.attribute given.start given.max given.vector)) result }
@@ -90,7 +91,7 @@ impl State {
         }
     }
 
-    // Any request of a semaphore. The calls below do not use it: measured, what several of them share copies the whole state.
+    // Any request of a semaphore. The calls below, each under its name in μITRON, do not use it: measured, what several of them share copies the whole state.
     pub(crate) fn on_semaphore(mut self, caller: i32, id: i32, request: SemaphoreRequest) -> Answer
         requires { Valid self }
         ensures { Does self (call caller (on_semaphore id (act_of request))) result }

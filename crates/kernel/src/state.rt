@@ -16,6 +16,7 @@ use tasks::state::Tasks;
 pub struct State {
     // The number n of user domains.
     pub(crate) domains: usize,
+    // No type of its own: document 01 has one state that goes in and comes back, and E_CTX for the wrong one.
     pub(crate) closed: bool,
     pub(crate) tasks: Tasks,
     pub(crate) levels: Levels,
@@ -37,6 +38,7 @@ pub struct Answer {
 // What fresh, an entry and closing answer.
 #[derive(Clone, Copy)]
 pub struct Entered {
+    // An i32 by document 01 ("Where each form goes").
     pub code: i32,
     pub state: State,
 }

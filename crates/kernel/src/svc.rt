@@ -76,7 +76,7 @@ impl State {
         self.with_levels(self.level_effect(caller, ExtendedCall::Leave))
     }
 
-    // A task's level; 0 where there is no such task.
+    // A task's level; 0 where there is no such task, as every query shows zeros for what is not there.
     pub fn level(self, number: usize) -> u8
         requires { Valid self }
         ensures { result ≡ level_at (view_of self) number }

@@ -15,14 +15,14 @@ pub mod dtq;
 pub mod sem;
 pub mod svc;
 
-// What a call answers: a code, or that the caller waits.
+// What a call answers: a code, which is an i32 by document 01 ("Where each form goes"), or that the caller waits.
 #[derive(Clone, Copy)]
 pub enum Outcome {
     Code(i32),
     Waiting,
 }
 
-// A released task's number with the word that it gets; 0 and 0 for none.
+// A released task's number with the word that it gets; 0 and 0 for none, by document 01: where there is none, the number is 0.
 #[derive(Clone, Copy)]
 pub struct Released {
     pub task: usize,

@@ -26,7 +26,7 @@ impl Protection {
     };
 }
 
-// The first `count` cells of each array are used, the others are zeros. Bases and sizes are arrays of numbers, so that they can be lent.
+// The first `count` cells of each array are used, the others are zeros. Bases and sizes are arrays of numbers, so that they can be lent, as `finding_find` is lent them from C.
 #[derive(Clone, Copy)]
 pub struct Regions {
     pub(crate) count: usize,

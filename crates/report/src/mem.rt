@@ -23,6 +23,7 @@ pub(crate) fn write_region<W: Write>(out: &mut W, state: &State, number: usize) 
 // `CODE length=L first=B last=B`: the bytes of an empty part are told as 0.
 #[derive(Clone, Copy)]
 pub struct Handed<'a> {
+    // As the kernel gives it.
     pub code: i32,
     pub part: &'a [u8],
 }

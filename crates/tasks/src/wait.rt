@@ -36,7 +36,7 @@ pub struct Ended {
     pub tasks: Tasks,
 }
 
-// The number of the task with an index; 0 if there is none.
+// The number of the task with an index; 0 if there is none, which answers show (document 01).
 pub(crate) fn task_number(task: Option<usize>) -> usize
     requires { task_number task ≤ max_tasks }
     ensures { result ≡ task_number task }
@@ -57,6 +57,7 @@ impl Tasks {
         let Tasks { entries, order, .. } = self;
         let mut ahead = k;
         let arrivals = order.as_slice();
+        // Tried as a chain of `filter` and `nth`: that its closure's index is in range was not proved.
         for &task in arrivals {
             let task = usize::from(task);
             if entries[task].wait.is_at(place) {
