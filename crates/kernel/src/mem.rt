@@ -46,9 +46,15 @@ impl State {
     }
 
     // Whether a domain may use an area as it wishes.
-    pub(crate) fn verdict(self, domain: i32, base: u32, size: u32, wishes: u32) -> Result<(), Error>
-        requires { Valid self }
-        ensures { result ≡ passed (verdict (view_of self) domain base size wishes) }
+    pub(crate) fn verdict(
+        &self,
+        domain: i32,
+        base: u32,
+        size: u32,
+        wishes: u32,
+    ) -> Result<(), Error>
+        requires { Valid self.now }
+        ensures { result ≡ passed (verdict (view_of self.now) domain base size wishes) }
     {
         if !self.closed {
             return Err(Error::Ctx);
@@ -60,17 +66,17 @@ impl State {
         regions.judge(domain, base, size, wishes)
     }
 
-    // The verdict's code, an i32 by document 01; it gives no state back.
-    pub fn prb_mem(self, domain: i32, base: u32, size: u32, wishes: u32) -> i32
-        requires { Valid self }
-        ensures { result ≡ result_of (verdict (view_of self) domain base size wishes) }
+    // The verdict's code, an i32 by document 01. It gives no state back and takes none: the state is lent, and not copied.
+    pub fn prb_mem(&self, domain: i32, base: u32, size: u32, wishes: u32) -> i32
+        requires { Valid self.now }
+        ensures { result ≡ result_of (verdict (view_of self.now) domain base size wishes) }
     {
         code_of(self.verdict(domain, base, size, wishes))
     }
 
     // Whether a domain may read an area and one of two lent images has all of it.
     pub(crate) fn hand_out<'a>(
-        self,
+        &self,
         domain: i32,
         base: u32,
         size: u32,
@@ -78,8 +84,8 @@ impl State {
         flash: &'a [u8],
         ram: &'a [u8],
     ) -> Result<(), Error>
-        requires { Valid self }
-        ensures { result ≡ passed (hand_out (view_of self) domain base size (image bases.flash flash.now) (image bases.ram ram.now)) }
+        requires { Valid self.now }
+        ensures { result ≡ passed (hand_out (view_of self.now) domain base size (image bases.flash flash.now) (image bases.ram ram.now)) }
     {
         if !self.closed {
             return Err(Error::Ctx);
@@ -97,7 +103,7 @@ impl State {
 
     // The code of handing out an area, an i32 by document 01.
     pub fn get_mem_code<'a>(
-        self,
+        &self,
         domain: i32,
         base: u32,
         size: u32,
@@ -105,15 +111,15 @@ impl State {
         flash: &'a [u8],
         ram: &'a [u8],
     ) -> i32
-        requires { Valid self }
-        ensures { result ≡ result_of (hand_out (view_of self) domain base size (image bases.flash flash.now) (image bases.ram ram.now)) }
+        requires { Valid self.now }
+        ensures { result ≡ result_of (hand_out (view_of self.now) domain base size (image bases.flash flash.now) (image bases.ram ram.now)) }
     {
         code_of(self.hand_out(domain, base, size, bases, flash, ram))
     }
 
     // The area's bytes, as they stand in the one image that has them; an empty part where the code is not E_OK.
     pub fn get_mem<'a>(
-        self,
+        &self,
         domain: i32,
         base: u32,
         size: u32,
@@ -121,8 +127,8 @@ impl State {
         flash: &'a [u8],
         ram: &'a [u8],
     ) -> &'a [u8]
-        requires { Valid self }
-        ensures { result.now ≡ handed_bytes (view_of self) domain base size (image bases.flash flash.now) (image bases.ram ram.now) }
+        requires { Valid self.now }
+        ensures { result.now ≡ handed_bytes (view_of self.now) domain base size (image bases.flash flash.now) (image bases.ram ram.now) }
     {
         let allowed = self.hand_out(domain, base, size, bases, flash, ram);
         if allowed.is_err() {

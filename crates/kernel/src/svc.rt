@@ -1,12 +1,10 @@
 // Extended service calls (request T-03): entering and leaving one, and a task's level.
 ghost use Rattle.std.specs.Prelude.{◌≡◌};
 ghost use Rattle.model.specs.State.{level_at};
-ghost use Rattle.model.specs.Answers.{plain, no_info};
 ghost use Rattle.model.specs.Calls.{call, on_level, step};
 ghost use Rattle.model.specs.declared.svc.ExtendedCall.TheVariants.{Enter, Leave};
 ghost use Rattle.kernel.specs.View.{view_of};
 ghost use Rattle.kernel.specs.Valid.{Valid};
-ghost use Rattle.kernel.specs.Answers.{answered};
 ghost use Rattle.kernel.specs.Inside.{levels_given, levels_answered};
 ghost use Rattle.kernel.specs.Promises.{Does};
 
@@ -29,26 +27,20 @@ impl State {
         act(self.levels, task, asked)
     }
 
-    // The answer that hands on a code and nothing else.
-    pub(crate) fn answer(self, code: i32) -> Answer
-        ensures { result ≡ answered (plain code 0) no_info self }
+    // A call's effect on the levels; a refusal leaves them. Measured: one state is made, since each more costs a copy.
+    pub(crate) fn with_levels(self, effect: Result<Levels, Error>) -> Answer
+        ensures { result ≡ levels_answered self effect }
     {
+        let (code, levels) = match effect {
+            Ok(levels) => (E_OK, levels),
+            Err(error) => (i32::from(error), self.levels),
+        };
         Answer {
             outcome: Outcome::Code(code),
             word: 0,
             released: Released { task: 0, word: 0 },
             info: Info::NONE,
-            state: self,
-        }
-    }
-
-    // A call's effect on the levels.
-    pub(crate) fn with_levels(self, effect: Result<Levels, Error>) -> Answer
-        ensures { result ≡ levels_answered self effect }
-    {
-        match effect {
-            Ok(levels) => State { levels, ..self }.answer(E_OK),
-            Err(error) => self.answer(i32::from(error)),
+            state: State { levels, ..self },
         }
     }
 

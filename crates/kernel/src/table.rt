@@ -49,8 +49,8 @@ impl State {
     }
 
     // Whether a task may belong to a domain, and whether the verdict may be asked for it: the kernel's, or 1 to n.
-    pub(crate) fn owns_task(self, domain: i32) -> bool
-        ensures { result ≡ owns_task self.domains domain }
+    pub(crate) fn owns_task(&self, domain: i32) -> bool
+        ensures { result ≡ owns_task self.now.domains domain }
     {
         if domain == KERNEL_DOMAIN {
             return true;
@@ -59,8 +59,8 @@ impl State {
     }
 
     // Whether another object may belong to a domain: also to none.
-    pub(crate) fn owns(self, domain: i32) -> bool
-        ensures { result ≡ owns self.domains domain }
+    pub(crate) fn owns(&self, domain: i32) -> bool
+        ensures { result ≡ owns self.now.domains domain }
     {
         if domain == NO_DOMAIN {
             return true;

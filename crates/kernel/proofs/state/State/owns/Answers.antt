@@ -8,8 +8,8 @@ use Rattle.kernel.proofs.state.State.owns.Goals as goal
 
 pub returns-then-domain-eq-NO_DOMAIN : goal.returns-then-domain-eq-NO_DOMAIN
 returns-then-domain-eq-NO_DOMAIN c =
-    owns_none c.args.self.domains c.args.domain (sym (to_z-of_z c.ranges.domain) ∙ ap (to_z w32) c.if-domain-eq-NO_DOMAIN.true)
+    owns_none c.args.self.now.domains c.args.domain (sym (to_z-of_z c.ranges.domain) ∙ ap (to_z w32) c.if-domain-eq-NO_DOMAIN.true)
 
 pub returns : goal.returns
 returns c =
-    rw (to_z-of_z c.ranges.domain) at c.owns_task.ensures ∙ owns_other c.args.self.domains c.args.domain (λ e. c.if-domain-eq-NO_DOMAIN.false (ap (of_z w32) e))
+    rw (to_z-of_z c.ranges.domain) at c.owns_task.ensures ∙ owns_other c.args.self.now.domains c.args.domain (λ e. c.if-domain-eq-NO_DOMAIN.false (ap (of_z w32) e))

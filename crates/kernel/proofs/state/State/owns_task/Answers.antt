@@ -12,5 +12,5 @@ use Rattle.kernel.proofs.state.State.owns_task.Goals as goal
 pub returns : goal.returns
 returns c =
     let a = c.args in
-    c.is_some.ensures ∙ ap is_some (rw (to_z-of_z c.ranges.domain) at c.ordinal.ensures) ∙ numbered_is_some (ordinal_of a.domain a.self.domains)
-    ∙ owns_user a.self.domains a.domain (λ e. c.if-domain-eq-KERNEL_DOMAIN.false (ap (of_z w32) e))
+    c.is_some.ensures ∙ ap is_some (rw (to_z-of_z c.ranges.domain) at c.ordinal.ensures) ∙ numbered_is_some (ordinal_of a.domain a.self.now.domains)
+    ∙ owns_user a.self.now.domains a.domain (λ e. c.if-domain-eq-KERNEL_DOMAIN.false (ap (of_z w32) e))
