@@ -8,7 +8,8 @@ use access::domain::ordinal;
 use itron::code::E_OK;
 use itron::limit::MAX_TASKS;
 use kernel::state::{Answer, State};
-use model::Outcome;
+use model::svc::ExtendedCall;
+use model::{Outcome, Request};
 use std::{fmt, io};
 
 // A call by its operation: the task, the number of its object, and a word or the patterns of a vector.
@@ -146,19 +147,30 @@ pub fn sections(rt: &impl Print, table: State, sections: &[Section]) -> io::Resu
     Ok(())
 }
 
-// Many calls of a task on its level, in one line.
-pub fn many(rt: &impl Print, mut s: State, task: i32, call: Call, times: u32) -> io::Result<State>
+// Many calls of a task on its level, in one line. Each is made by its request: measured, a choice among all calls in every round costs two
+// copies of the state more.
+pub fn many(
+    rt: &impl Print,
+    mut s: State,
+    task: i32,
+    asked: ExtendedCall,
+    times: u32,
+) -> io::Result<State>
     requires { Valid s }
     ensures { IfOk result Valid }
 {
     let mut count: u32 = 0;
     for _ in 0..times {
-        let answer = call.made(s);
+        let answer = s.call(task, Request::Extended(asked));
         s = answer.state;
         if let Outcome::Code(E_OK) = answer.outcome {
             count = count.wrapping_add(1);
         }
     }
+    let call = match asked {
+        ExtendedCall::Enter => Call::CalSvc(task),
+        ExtendedCall::Leave => Call::RetSvc(task),
+    };
     print!(rt; "  {call} {times} times: E_OK {count} times")?;
     tell_level(rt, s, task)?;
     Ok(s)

@@ -10,6 +10,7 @@ use crate::entries::Entry::Task;
 use crate::entries::{close, table};
 use crate::say::heading;
 use kernel::state::State;
+use model::svc::ExtendedCall;
 use regions::flag::READ;
 use std::io;
 
@@ -78,9 +79,9 @@ fn depth(rt: &impl Print, table: State) -> io::Result<()>
 {
     heading(rt, "Extended service calls: how deep")?;
     let s = play(rt, table, &[RetSvc(2)])?;
-    let s = many(rt, s, 2, CalSvc(2), STEPS)?;
+    let s = many(rt, s, 2, ExtendedCall::Enter, STEPS)?;
     let s = play(rt, s, &AT_THE_TOP)?;
-    let s = many(rt, s, 2, RetSvc(2), STEPS)?;
+    let s = many(rt, s, 2, ExtendedCall::Leave, STEPS)?;
     play(rt, s, &AT_THE_BOTTOM)?;
     Ok(())
 }

@@ -8,12 +8,17 @@ pub mod run;
 use lists::RUNS;
 use std::io;
 
-fn main(rt: HostRuntime) -> io::Result<()> {
+fn show(rt: &impl Print) -> io::Result<()> {
     for (k, run) in RUNS.iter().enumerate() {
         if k != 0 {
             rt.println("")?;
         }
-        run.show(&rt)?;
+        run.show(rt)?;
     }
     Ok(())
+}
+
+// What cannot be written is missing in the output, and the program ends as ever.
+fn main(rt: HostRuntime) {
+    let _ = show(&rt);
 }

@@ -4,12 +4,13 @@ use batch::answer::ANSWER_WORDS;
 use batch::numbers::CALL_WORDS;
 use batch::word::signed;
 use host::host_run;
-use std::alloc::{AllocError, Global};
 use std::cmp::min;
 use std::io;
 
 // The longest list.
 const MOST_CALLS: usize = 16;
+
+const LIST_WORDS: usize = MOST_CALLS * CALL_WORDS;
 
 pub const ANSWERS: usize = MOST_CALLS * ANSWER_WORDS;
 
@@ -57,26 +58,30 @@ fn show_answer(rt: &impl Print, call: &[u32], answer: &[u32]) -> io::Result<()> 
 }
 
 impl Run {
-    // The words of the calls, and those behind them.
-    fn words(self, alloc: Global) -> Result<Vec<u32>, AllocError> {
+    // The words of the calls, and zeros behind them up to the longest list's; and how many of them a run takes.
+    fn words(self) -> ([u32; LIST_WORDS], usize) {
         let Run(_, calls, tail, _) = self;
-        let mut words = Vec::new(alloc);
+        let mut words = [0; LIST_WORDS];
+        let mut count: usize = 0;
         for call in calls {
-            words.extend_from_slice(&call.words())?;
+            for word in call.words() {
+                if count < LIST_WORDS {
+                    words[count] = word;
+                    count += 1;
+                }
+            }
         }
-        for _ in 0..tail {
-            words.push(0)?;
-        }
-        Ok(words)
+        (words, min(count.saturating_add(tail), LIST_WORDS))
     }
 
     // The answers get the first words of a slice.
-    pub fn show(self, rt: &(impl Print + AllocGlobal)) -> io::Result<()> {
+    pub fn show(self, rt: &impl Print) -> io::Result<()> {
         let Run(heading, _, _, room) = self;
         rt.println(heading)?;
-        let words = self.words(rt.alloc())?;
+        let (words, count) = self.words();
+        let words = &words[..count];
         let mut answers = [UNTOUCHED; ANSWERS];
-        let answered = host_run(&words, &mut answers[..min(room, ANSWERS)]);
+        let answered = host_run(words, &mut answers[..min(room, ANSWERS)]);
         let made = words
             .chunks(CALL_WORDS)
             .zip(answers.chunks_exact(ANSWER_WORDS));

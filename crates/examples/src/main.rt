@@ -5,12 +5,12 @@ use std::rt::Files;
 use std::{env, fs, io};
 
 // A script that cannot be opened leaves its name alone in the output, and the reason on standard error.
-fn show<R: Files + Print + Eprint + AllocGlobal>(rt: &R, name: &str) -> io::Result<()> {
+fn show<R: Files + Print + Eprint>(rt: &R, name: &str) -> io::Result<()> {
     println!(rt; "==== {name}")?;
     match fs::open(rt, name) {
         Ok(mut script) => {
             // What could not be written is missing in the output, which the gate compares.
-            let _ = session::run(rt.alloc(), &mut script, io::writer(rt));
+            let _ = session::run(&mut script, io::writer(rt));
             Ok(())
         }
         Err(error) => eprintln!(rt; "{name}: {error}"),

@@ -2,7 +2,7 @@
 #![tactic(auto)]
 
 fn main(rt: HostRuntime) {
-    if session::run(rt.alloc(), &mut rt.stdin(), rt.stdout()).is_err() {
+    if session::run(&mut rt.stdin(), rt.stdout()).is_err() {
         let _ = rt.eprintln("replay: standard output cannot be written to");
     }
 }

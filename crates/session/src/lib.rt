@@ -3,24 +3,19 @@
 
 use itron::limit::MIN_UNIT;
 use kernel::state::State;
+use output::Output;
 use session::Session;
-use std::alloc::Global;
 use std::io;
-use std::io::{BufWriter, Read, Write};
+use std::io::{Read, Write};
 
 pub mod flaw;
 pub mod hand_out;
+pub mod output;
 pub mod perform;
 pub mod session;
 
 // Makes the commands of an input, from the empty table for n = 0 and unit 1 on; an error if an answer could not be written.
-pub fn run<R: Read, W: Write + Drop>(alloc: Global, input: &mut R, to: W) -> io::Result<()> {
+pub fn run<R: Read, W: Write + Drop>(input: &mut R, to: W) -> io::Result<()> {
     let mut session = Session::begin(State::fresh(0, MIN_UNIT).state);
-    let mut out = BufWriter::new(alloc, to)?;
-    let ran = session.run(input, &mut out);
-    if ran.is_err() {
-        // Else it would be tried once more to write what is left.
-        let _ = out.into_parts();
-    }
-    ran
+    session.run(input, &mut Output::new(to))
 }

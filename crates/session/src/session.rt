@@ -1,8 +1,8 @@
 // A run over an input: bytes come in by blocks, each whole line is made, and the output goes out before the program reads on.
-ghost use Rattle.std.specs.Prelude.{IfOk};
 ghost use Rattle.kernel.specs.Valid.{Valid};
 
 use crate::flaw::write_flaw;
+use crate::output::Output;
 use crate::perform::perform;
 use command::flaw::Flaw;
 use command::line::{Gathered, Line};
@@ -23,32 +23,32 @@ pub struct Session {
 }
 
 // The echo of a line's text and the arrow before its answer.
-fn write_echo<W: Write>(out: &mut W, text: &[u8]) -> io::Result<()> {
-    out.write_all(text)?;
-    write!(out, " -> ")
+fn write_echo<W: Write>(out: &mut Output<W>, text: &[u8]) {
+    let _ = out.write_all(text);
+    let _ = write!(out, " -> ");
 }
 
 // Makes the command of a line's text, or tells why it is not made. What is said has neither echo nor arrow.
 fn obey<W: Write>(
-    out: &mut W,
+    out: &mut Output<W>,
     state: State,
     text: &[u8],
     command: Result<Command, Flaw>,
-) -> io::Result<State>
+) -> State
     requires { Valid state }
-    ensures { IfOk result Valid }
+    ensures { Valid result }
 {
     match command {
         Ok(Command::Say) => perform(out, state, text, Command::Say),
         Ok(command) => {
-            write_echo(out, text)?;
+            write_echo(out, text);
             perform(out, state, text, command)
         }
         Err(flaw) => {
-            write_echo(out, text)?;
-            write_flaw(out, text, flaw)?;
-            writeln!(out)?;
-            Ok(state)
+            write_echo(out, text);
+            let _ = write_flaw(out, text, flaw);
+            let _ = writeln!(out);
+            state
         }
     }
 }
@@ -65,20 +65,19 @@ impl Session {
     }
 
     // Makes the line so far, if it asks for anything.
-    fn make<W: Write>(&mut self, out: &mut W, ended: bool) -> io::Result<()>
+    fn make<W: Write>(&mut self, out: &mut Output<W>, ended: bool)
         requires { Valid self.old.state }
         ensures { Valid self.new.state }
     {
         let Asked { command, echo } = requested(self.line, ended);
         if let Some(command) = command {
-            self.state = obey(out, self.state, echo.as_slice(), command)?;
+            self.state = obey(out, self.state, echo.as_slice(), command);
         }
         self.line = Line::empty();
-        Ok(())
     }
 
     // Takes the bytes of a block: each line that ends there is made.
-    fn take<W: Write>(&mut self, out: &mut W, block: &[u8]) -> io::Result<()>
+    fn take<W: Write>(&mut self, out: &mut Output<W>, block: &[u8])
         requires { Valid self.old.state }
         ensures { Valid self.new.state }
     {
@@ -90,14 +89,13 @@ impl Session {
             let Some(next) = next else {
                 break;
             };
-            self.make(out, true)?;
+            self.make(out, true);
             from = next;
         }
-        Ok(())
     }
 
-    // Makes the lines of an input to its end; the last one may lack its LF.
-    pub fn run<R: Read, W: Write>(&mut self, input: &mut R, out: &mut W) -> io::Result<()>
+    // Makes the lines of an input to its end, or up to the block whose answers could not be written; the last line may lack its LF.
+    pub fn run<R: Read, W: Write>(&mut self, input: &mut R, out: &mut Output<W>) -> io::Result<()>
         requires { Valid self.old.state }
         ensures { Valid self.new.state }
     {
@@ -110,10 +108,10 @@ impl Session {
             if count == 0 {
                 break;
             }
-            self.take(out, &block[..count])?;
+            self.take(out, &block[..count]);
         }
         if !self.line.is_empty() {
-            self.make(out, false)?;
+            self.make(out, false);
         }
         out.flush()
     }

@@ -1,0 +1,72 @@
+// What goes out is gathered in a block of fixed memory, which is written at the end of a line when it has no room for another, and
+// before the program reads on.
+use itron::limit::{MAX_CAPACITY, MAX_TASKS};
+use std::io;
+use std::io::Write;
+
+// An echo with its answer, or a line of a dump without its lists, is shorter.
+const PLAIN_LINE: usize = 400;
+
+// A comma and a word of ten digits.
+const LISTED_WORD: usize = 11;
+
+// A comma, a task's number of three digits, a colon and a word.
+const LISTED_SENDER: usize = 15;
+
+// The longest line is that of a data queue whose buffer is full and on which all tasks wait to send.
+const LONGEST_LINE: usize = PLAIN_LINE + MAX_CAPACITY as usize * LISTED_WORD + MAX_TASKS * LISTED_SENDER;
+
+const BLOCK: usize = 2 * LONGEST_LINE;
+
+// A writer that takes all it is given: the failure of a write is kept, and told by the next flush. After it nothing more is written.
+#[derive(Drop)]
+pub struct Output<W> {
+    to: W,
+    block: [u8; BLOCK],
+    count: usize,
+    failure: Option<io::Error>,
+}
+
+impl<W: Write> Output<W> {
+    pub fn new(to: W) -> Output<W> {
+        Output {
+            to,
+            block: [0; BLOCK],
+            count: 0,
+            failure: None,
+        }
+    }
+
+    // Writes the bytes of the block.
+    fn send(&mut self) {
+        if self.failure.is_none() {
+            let count = BLOCK.min(self.count);
+            self.failure = self.to.write_all(&self.block[..count]).err();
+        }
+        self.count = 0;
+    }
+}
+
+impl<W: Write> Write for Output<W> {
+    fn write(&mut self, bytes: &[u8]) -> io::Result<usize> {
+        if BLOCK <= self.count {
+            self.send();
+        }
+        let at = BLOCK.min(self.count);
+        let count = bytes.len().min(BLOCK - at);
+        self.block[at..at + count].copy_from_slice(&bytes[..count]);
+        self.count = at + count;
+        if bytes.ends_with(b"\n") && LONGEST_LINE <= self.count {
+            self.send();
+        }
+        Ok(count)
+    }
+
+    fn flush(&mut self) -> io::Result<()> {
+        self.send();
+        match self.failure.take() {
+            Some(failure) => Err(failure),
+            None => self.to.flush(),
+        }
+    }
+}
