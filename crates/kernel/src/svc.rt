@@ -27,21 +27,23 @@ impl State {
         act(self.levels, task, asked)
     }
 
-    // A call's effect on the levels; a refusal leaves them. Measured: one state is made, since each more costs a copy.
+    // A call's effect on the levels; a refusal leaves them. Measured: the answer is made once and changed in place, since a choice between
+    // two of all levels costs a copy of the tasks.
     pub(crate) fn with_levels(self, effect: Result<Levels, Error>) -> Answer
         ensures { result ≡ levels_answered self effect }
     {
-        let (code, levels) = match effect {
-            Ok(levels) => (E_OK, levels),
-            Err(error) => (i32::from(error), self.levels),
-        };
-        Answer {
-            outcome: Outcome::Code(code),
+        let mut answer = Answer {
+            outcome: Outcome::Code(E_OK),
             word: 0,
             released: Released { task: 0, word: 0 },
             info: Info::NONE,
-            state: State { levels, ..self },
+            state: self,
+        };
+        match effect {
+            Ok(levels) => answer.state.levels = levels,
+            Err(error) => answer.outcome = Outcome::Code(i32::from(error)),
         }
+        answer
     }
 
     // Either of them.
