@@ -103,22 +103,23 @@ fn tell_level(rt: &impl Print, s: State, task: i32) -> io::Result<()>
     )
 }
 
-// A call with its line; a refer's reply is the code alone, and then comes what it tells.
-fn make(rt: &impl Print, s: State, call: Call) -> io::Result<State>
-    requires { Valid s }
-    ensures { IfOk result Valid }
+// A call with its line; a refer's reply is the code alone, and then comes what it tells. The state is changed in place: measured, handing it
+// back in a Result costs a copy more.
+fn make(rt: &impl Print, s: &mut State, call: Call) -> io::Result<()>
+    requires { Valid s.old }
+    ensures { Valid s.new }
 {
     print!(rt; "  {call}")?;
-    let answer = call.made(s);
+    let answer = call.made(*s);
+    *s = answer.state;
     say::reply(rt, &answer)?;
     match call {
-        Call::RefSem(_, _) => say::semaphore(rt, answer.info)?,
-        Call::RefDtq(_, _) => say::queue(rt, answer.info)?,
-        Call::CalSvc(task) => tell_level(rt, answer.state, task)?,
-        Call::RetSvc(task) => tell_level(rt, answer.state, task)?,
-        _ => rt.println("")?,
+        Call::RefSem(_, _) => say::semaphore(rt, answer.info),
+        Call::RefDtq(_, _) => say::queue(rt, answer.info),
+        Call::CalSvc(task) => tell_level(rt, answer.state, task),
+        Call::RetSvc(task) => tell_level(rt, answer.state, task),
+        _ => rt.println(""),
     }
-    Ok(answer.state)
 }
 
 // These calls, one after the other.
@@ -127,7 +128,7 @@ pub fn play(rt: &impl Print, mut s: State, calls: &[Call]) -> io::Result<State>
     ensures { IfOk result Valid }
 {
     for call in calls {
-        s = make(rt, s, *call)?;
+        make(rt, &mut s, *call)?;
     }
     Ok(s)
 }
