@@ -1,5 +1,7 @@
 // What goes out is gathered in a block of fixed memory, which is written at the end of a line when it has no room for another, and
 // before the program reads on.
+ghost use Rattle.std.specs.Prelude.{◌≡◌, None};
+
 use itron::limit::{MAX_CAPACITY, MAX_TASKS};
 use std::io;
 use std::io::Write;
@@ -14,7 +16,9 @@ const LISTED_WORD: usize = 11;
 const LISTED_SENDER: usize = 15;
 
 // The longest line is that of a data queue whose buffer is full and on which all tasks wait to send.
-const LONGEST_LINE: usize = PLAIN_LINE + MAX_CAPACITY as usize * LISTED_WORD + MAX_TASKS * LISTED_SENDER;
+const LONGEST_LINE: usize = PLAIN_LINE
+    + MAX_CAPACITY as usize * LISTED_WORD
+    + MAX_TASKS * LISTED_SENDER;
 
 const BLOCK: usize = 2 * LONGEST_LINE;
 
@@ -28,7 +32,10 @@ pub struct Output<W> {
 }
 
 impl<W: Write> Output<W> {
-    pub fn new(to: W) -> Output<W> {
+    pub fn new(to: W) -> Output<W>
+        ensures holds_nothing { result.count ≡ 0 }
+        ensures has_not_failed { result.failure ≡ None }
+    {
         Output {
             to,
             block: [0; BLOCK],

@@ -50,12 +50,7 @@ fn enter(state: State, entry: Entry) -> Entered
 }
 
 // Makes the command of a line's text and writes its answer and the line's end. The state after it.
-pub fn perform<W: Write>(
-    out: &mut Output<W>,
-    state: State,
-    text: &[u8],
-    command: Command,
-) -> State
+pub fn perform<W: Write>(out: &mut Output<W>, state: State, text: &[u8], command: Command) -> State
     requires { Valid state }
     ensures { Valid result }
 {
