@@ -28,7 +28,7 @@ use Rattle.tasks.specs.declared.wait.Caller.{Caller}
 use Rattle.tasks.specs.Held.{Free, Passed}
 use Rattle.kernel.specs.declared.state.State.{State}
 use Rattle.kernel.specs.View.{view_of}
-use Rattle.kernel.specs.Inside.{caller_in, checked_by, check_of}
+use Rattle.kernel.specs.Inside.{caller_in, checked_by, check_of, numbered}
 
 -- who calls, and what is admitted, in the program's words
 abbrev pub calls_as : ℕ → ℤ → Optional Caller
@@ -147,9 +147,13 @@ abbrev refused_or : Result Admitted Refusal → Refusal → Refusal
 refused_or (Refused e) d = e
 refused_or (Ok x) d = d
 
-abbrev admitted_or : Result Admitted Refusal → Admitted → Admitted
+abbrev admitted_or : {E : Type 0} → Result Admitted E → Admitted → Admitted
 admitted_or (Ok x) y = x
 admitted_or (Refused e) y = y
+
+was_admitted : (k : Result Admitted Refusal) (x : Admitted) → numbered k ≡ Ok x → k ≡ Ok x
+was_admitted (Ok y) x h = ap (λ (j : Result Admitted ℤ). Ok (admitted_or j y)) h
+was_admitted (Refused e) x h = absurd (let z : ◌≡◌ {A = ℕ} 0 1 = cc in omega arith)
 
 module _ {C R : Type 0} (r : Room C R) (s : State) (z n : ℤ) (a : Act C) where
   -- a call that they refuse: the model's answer is that refusal
@@ -191,5 +195,8 @@ module _ {C R : Type 0} (r : Room C R) (s : State) (z n : ℤ) (a : Act C) where
           }
 
   -- what an effect may take for granted of what they found
-  pub passes : {k : Result Admitted Refusal} → check_of r s z n a ≡ k → Passed s.tasks (length (r.records (view_of s))) k
-  passes h = record { free = λ x e. (admission x.task x.object (h ∙ e)).free; there = λ x e. (admission x.task x.object (h ∙ e)).there }
+  pub passes : {k : Result Admitted ℤ} → k ≡ numbered (check_of r s z n a) → Passed s.tasks (length (r.records (view_of s))) k
+  passes {k} h = record { free = λ x e. (admitted x e).free; there = λ x e. (admitted x e).there }
+    where
+      admitted : (x : Admitted) → k ≡ Ok x → Admission x.task x.object
+      admitted x e = admission x.task x.object (was_admitted (check_of r s z n a) x (sym h ∙ e))
