@@ -33,7 +33,7 @@ use Rattle.tasks.specs.declared.wait.Caller.{Caller}
 use Rattle.tasks.specs.Held.{Free, Passed}
 use Rattle.kernel.specs.declared.state.State.{State}
 use Rattle.kernel.specs.View.{view_of}
-use Rattle.kernel.specs.Inside.{caller_in, checked_by, check_of, numbered}
+use Rattle.kernel.specs.Inside.{caller_in, checked_by, check_of, coded}
 
 -- who calls, and what is admitted, in the program's words
 abbrev pub calls_as : ℕ → ℤ → Optional Caller
@@ -176,7 +176,7 @@ abbrev admitted_or : {E : Type 0} → Result Admitted E → Admitted → Admitte
 admitted_or (Ok x) y = x
 admitted_or (Refused e) y = y
 
-was_admitted : (k : Result Admitted Refusal) (x : Admitted) → numbered k ≡ Ok x → k ≡ Ok x
+was_admitted : (k : Result Admitted Refusal) (x : Admitted) → coded k ≡ Ok x → k ≡ Ok x
 was_admitted (Ok y) x h = ap (λ (j : Result Admitted ℤ). Ok (admitted_or j y)) h
 was_admitted (Refused e) x h = absurd (let z : ◌≡◌ {A = ℕ} 0 1 = cc in omega arith)
 
@@ -220,7 +220,7 @@ module _ {C R : Type 0} (r : Room C R) (s : State) (z n : ℤ) (a : Act C) where
           }
 
   -- what an effect may take for granted of what they found
-  pub passes : {k : Result Admitted ℤ} → k ≡ numbered (check_of r s z n a) → Passed s.tasks (length (r.records (view_of s))) k
+  pub passes : {k : Result Admitted ℤ} → k ≡ coded (check_of r s z n a) → Passed s.tasks (length (r.records (view_of s))) k
   passes {k} h = record { free = λ x e. (admitted x e).free; there = λ x e. (admitted x e).there }
     where
       admitted : (x : Admitted) → k ≡ Ok x → Admission x.task x.object

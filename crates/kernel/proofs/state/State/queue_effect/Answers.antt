@@ -7,11 +7,11 @@ use Rattle.model.specs.Queues.{slots, act_of, room}
 use Rattle.model.proofs.Rooms.{own_same}
 use Rattle.dataqueue.specs.Effects.{acted}
 use Rattle.kernel.specs.View.{view_of}
-use Rattle.kernel.specs.Inside.{caller_in, checked_by, check_of, numbered}
+use Rattle.kernel.specs.Inside.{caller_in, checked_by, check_of, coded}
 use Rattle.kernel.proofs.Back.{tasks_held, queues_held}
 use Rattle.kernel.proofs.Checks.{check_is, passes}
 use Rattle.kernel.proofs.state.State.queue_effect.Goals as goal
-use Rattle.kernel.proofs.state.State.queue_effect.Goals.{After-check-check, After-numbered}
+use Rattle.kernel.proofs.state.State.queue_effect.Goals.{After-check-check, After-coded}
 
 pub find-requires : goal.find-requires
 find-requires c = queues_held c.requires
@@ -28,9 +28,9 @@ checks c =
     ∙ (λ i. checked_by (caller_in m (no a.caller)) (o i) (f i))
     ∙ check_is room m (no a.caller) (no a.id) (act_of a.request) (own_same clear (slots m.waits m.queues (no a.id)) (λ c. refl) (act_of a.request)))
 
--- the number of a refusal, as `act` takes it
-found : (c : After-numbered) → let a = c.args in c.numbered.result ≡ numbered (check_of room a.self a.caller a.id (act_of a.request))
-found c = c.numbered.ensures ∙ ap numbered (sym (checks c.before))
+-- the code of a refusal, as `act` takes it
+found : (c : After-coded) → let a = c.args in c.coded.result ≡ coded (check_of room a.self a.caller a.id (act_of a.request))
+found c = c.coded.ensures ∙ ap coded (sym (checks c.before))
 
 pub act-requires : goal.act-requires
 act-requires c = (tasks_held c.requires, queues_held c.requires, passes room c.args.self c.args.caller c.args.id (act_of c.args.request) (found c))
