@@ -8,6 +8,7 @@ use mathlib.Core.Logic.{◌≢◌}
 use lib.Dec.{eqb}
 use lib.ListN.{length, get_or, drop}
 use borrow.Author.Tests.{ne_eqb, lt-ltb, le-ltb}
+use Rattle.itron.specs.Codes.{number_of}
 use Rattle.itron.specs.declared.error.Error.TheVariants.{Iluse as e_iluse}
 use Rattle.model.specs.State as Model
 use Rattle.model.specs.State.{TaskEntry, Waiter, Place, place}
@@ -85,7 +86,7 @@ module _ {t : Tasks} {s : Queues} (ht : TasksHeld.Held t) (h : Held s) (k : ℕ)
   full r = le-ltb (length buffer) (queue_in xs (suc k)).capacity (omega (arith, r, len_seen, capacity_seen))
 
   module _ (w : ℕ) where
-    pub force_misused_lem : row.capacity ≡ 0 → refused_with t s e_iluse ≡ effect_as es (on_force ws xs (suc k) w)
+    pub force_misused_lem : row.capacity ≡ 0 → refused_with t s (number_of e_iluse) ≡ effect_as es (on_force ws xs (suc k) w)
     force_misused_lem c =
         refuses_by queues_as effect ht h.form e_iluse
         ∙ ap (λ (n : ℕ). effect_as es (force_by ws xs (suc k) w (eqb n 0) (waiters_in ws (place receiving (suc k))) (has_room (queue_in xs (suc k))))) (sym c ∙ capacity_seen)

@@ -3,7 +3,7 @@ use Prim.Native.Nat.{ℕ, zero, suc, ◌+◌, ◌-◌, ◌≤◌, ◌<◌}
 use native.Mathlib.Omega.{arith}
 use mathlib.Core.Path.{◌≡◌, refl, sym, ap, ◌∙◌, subst}
 use mathlib.Core.List.{List, [], ◌∷◌, ◌++◌, map}
-use lib.ListN.{length, get_or, take, drop, set, length-append, length-set, length-drop}
+use lib.ListN.{length, get_or, take, drop, set, length-append, length-set, length-drop, get_or-eq_default}
 use lib.Seq.{get_or-take, get_or-drop, set-get_or}
 use Rattle.access.specs.declared.vector.Vector.{Vector}
 use Rattle.arrays.specs.Pad.{pad}
@@ -157,6 +157,11 @@ module _ {q : Queues} (h : Held q) where
       go f [] k a u = omega arith
       go f (x ∷ l) zero a u = omega (arith, a.0, u)
       go f (x ∷ l) (suc k) a u = go (f + x.capacity) l k a.1 (omega (arith, u))
+
+  -- no record where there is no queue
+  pub record_none : (n : ℕ) → q.count < n → no_record ≡ at no_record (laid 0 (queues_of q)) n
+  record_none zero l = absurd (omega arith)
+  record_none (suc i) l = sym (get_or-eq_default (laid 0 (queues_of q)) no_record (omega (arith, l, count_seen, laid_length 0 (queues_of q))))
 
   record_row : (k : ℕ) → record_in q k ≡ get_or (laid 0 (queues_of q)) k no_record
   unfolding queues_as

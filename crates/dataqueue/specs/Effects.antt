@@ -1,6 +1,5 @@
 -- What a request of a data queue gives, as the program gives it. Definitions only.
-use Rattle.std.specs.Prelude.{List, Result}
-use Rattle.itron.specs.declared.error.Error.{Error as Refusal}
+use Rattle.std.specs.Prelude.{List, ℤ, Result}
 use Rattle.model.specs.State.{TaskEntry, Queue}
 use Rattle.model.specs.declared.dtq.QueueCall.{QueueCall}
 use Rattle.model.specs.declared.check.Admitted.{Admitted}
@@ -19,5 +18,5 @@ abbrev pub effect_as : List TaskEntry → Model.Effect Queue → Effect Queues
 effect_as = OfAnyKind.effect_as queues_as
 
 -- what the checks refuse, or what the act does
-abbrev pub acted : Tasks → Queues → Act QueueCall → Result Admitted Refusal → Effect Queues
+abbrev pub acted : Tasks → Queues → Act QueueCall → Result Admitted ℤ → Effect Queues
 acted = OfAnyKind.acted room queues_as queues_of

@@ -12,8 +12,7 @@ ghost use Rattle.dataqueue.specs.Effects.{acted, effect_as};
 
 use crate::state::Queues;
 use access::vector::Operation;
-use itron::code::E_OK;
-use itron::error::Error;
+use itron::code::{E_ILUSE, E_OK};
 use model::check::Admitted;
 use model::dtq::{QueueCall, QueueRequest};
 use model::{Info, Patience, Reply, Side, attribute};
@@ -92,7 +91,7 @@ pub(crate) fn force(tasks: Tasks, queues: Queues, object: usize, word: u32) -> E
 {
     let queue = queues.records[object];
     if queue.capacity == 0 {
-        return Effect::refused(tasks, queues, Error::Iluse);
+        return Effect::refused(tasks, queues, E_ILUSE);
     }
     if let Some(taker) = tasks.first(Side::Receiving, object, RECEIVERS_BY_PRIORITY) {
         return Effect::ended(tasks.wake(taker.task, 0, word), queues);
@@ -164,7 +163,7 @@ pub fn operation(request: QueueRequest) -> Operation
 pub fn act(
     tasks: Tasks,
     queues: Queues,
-    check: Result<Admitted, Error>,
+    check: Result<Admitted, i32>,
     request: QueueRequest,
 ) -> Effect<Queues>
     requires { TasksHeld.Held tasks × Held queues × Passed tasks (length (queues_of queues)) check }
@@ -172,7 +171,7 @@ pub fn act(
 {
     let Admitted { task, object } = match check {
         Ok(admitted) => admitted,
-        Err(error) => return Effect::refused(tasks, queues, error),
+        Err(code) => return Effect::refused(tasks, queues, code),
     };
     match request {
         QueueRequest::Own(call) => own(tasks, queues, task, object, call),

@@ -5,13 +5,17 @@ use mathlib.Core.Path.{◌≡◌, refl, sym, ap, ◌∙◌}
 use mathlib.Core.Logic.{◌≢◌}
 use mathlib.Core.Bool.{Bool, true, false, cond, not, ◌&&◌}
 use mathlib.Core.Option.{Option, none, some}
+use mathlib.Core.List.{[], ◌∷◌}
 use lib.Dec.{leb}
 use lib.IntN.{ℤ}
 use lib.ListN.{length}
+use types.Run.{OneOf}
+use denote.Enum.Declared.{tag_of}
 use Rattle.access.specs.Domains.{running_of}
 use Rattle.access.specs.Vectors.{pattern_of}
 use Rattle.itron.specs.declared.error.Error.{Error as Refusal}
-use Rattle.itron.specs.declared.error.Error.TheVariants.{Ctx as e_ctx, Id as e_id, Par as e_par, Noexs as e_noexs, Oacv as e_oacv}
+use Rattle.itron.specs.declared.error.Error.TheVariants.{Sys as e_sys, Rsatr as e_rsatr, Par as e_par, Id as e_id, Ctx as e_ctx, Macv as e_macv, Oacv as e_oacv, Iluse as e_iluse, Nomem as e_nomem, Noid as e_noid, Obj as e_obj, Noexs as e_noexs, Qovr as e_qovr, Tmout as e_tmout}
+use Rattle.itron.specs.contracts.error.Error.{the_type as error_type}
 use Rattle.model.specs.Lists.{index}
 use Rattle.model.specs.State as Model
 use Rattle.model.specs.State.{domain_at, level_at, running_at, no}
@@ -24,11 +28,12 @@ use Rattle.model.proofs.Lists.{and_right, no_both, both}
 use Rattle.model.proofs.Rooms.{calls_of, passed}
 use Rattle.std.specs.Prelude.{Option as Optional, Some, None, Result, Ok, Err as Refused, unwrap_or}
 use Rattle.model.specs.declared.check.Admitted.{Admitted}
+use Rattle.model.specs.declared.check.Target.{Target}
 use Rattle.tasks.specs.declared.wait.Caller.{Caller}
 use Rattle.tasks.specs.Held.{Free, Passed}
 use Rattle.kernel.specs.declared.state.State.{State}
 use Rattle.kernel.specs.View.{view_of}
-use Rattle.kernel.specs.Inside.{caller_in, checked_by, check_of}
+use Rattle.kernel.specs.Inside.{caller_in, checked_by, check_of, coded}
 
 -- who calls, and what is admitted, in the program's words
 abbrev pub calls_as : ℕ → ℤ → Optional Caller
@@ -41,6 +46,26 @@ calls_same : {t u : ℕ} {d e : ℤ} → calls_as t d ≡ calls_as u e → (t �
 calls_same {t} {u} {d} {e} h =
     let f : Optional Caller → Caller = λ o. unwrap_or o (record { task = t; domain = d }) in
     (ap (λ o. (f o).task) h, ap (λ o. (f o).domain) h)
+
+-- a refusal that has the tag of E_NOEXS, and a target that it refuses
+is_noexs : (e : Refusal) → OneOf (11 ∷ []) (tag_of error_type e) → e ≡ e_noexs
+is_noexs e_sys t = absurd (omega arith)
+is_noexs e_rsatr t = absurd (omega arith)
+is_noexs e_par t = absurd (omega arith)
+is_noexs e_id t = absurd (omega arith)
+is_noexs e_ctx t = absurd (omega arith)
+is_noexs e_macv t = absurd (omega arith)
+is_noexs e_oacv t = absurd (omega arith)
+is_noexs e_iluse t = absurd (omega arith)
+is_noexs e_nomem t = absurd (omega arith)
+is_noexs e_noid t = absurd (omega arith)
+is_noexs e_obj t = absurd (omega arith)
+is_noexs e_noexs t = refl
+is_noexs e_qovr t = absurd (omega arith)
+is_noexs e_tmout t = absurd (omega arith)
+
+pub is_missing : (x : Result Target Refusal) (e : Refusal) → x ≡ Refused e → OneOf (11 ∷ []) (tag_of error_type e) → x ≡ Refused e_noexs
+is_missing x e h t = h ∙ ap (λ (d : Refusal). Refused d) (is_noexs e t)
 
 -- ---- who calls, which object, and whether the caller may: the checks of a call that must meet nothing besides
 module _ {C R : Type 0} (r : Room C R) (m : Model.State) (t n : ℕ) (a : Act C) where
@@ -147,9 +172,13 @@ abbrev refused_or : Result Admitted Refusal → Refusal → Refusal
 refused_or (Refused e) d = e
 refused_or (Ok x) d = d
 
-abbrev admitted_or : Result Admitted Refusal → Admitted → Admitted
+abbrev admitted_or : {E : Type 0} → Result Admitted E → Admitted → Admitted
 admitted_or (Ok x) y = x
 admitted_or (Refused e) y = y
+
+was_admitted : (k : Result Admitted Refusal) (x : Admitted) → coded k ≡ Ok x → k ≡ Ok x
+was_admitted (Ok y) x h = ap (λ (j : Result Admitted ℤ). Ok (admitted_or j y)) h
+was_admitted (Refused e) x h = absurd (let z : ◌≡◌ {A = ℕ} 0 1 = cc in omega arith)
 
 module _ {C R : Type 0} (r : Room C R) (s : State) (z n : ℤ) (a : Act C) where
   -- a call that they refuse: the model's answer is that refusal
@@ -191,5 +220,8 @@ module _ {C R : Type 0} (r : Room C R) (s : State) (z n : ℤ) (a : Act C) where
           }
 
   -- what an effect may take for granted of what they found
-  pub passes : {k : Result Admitted Refusal} → check_of r s z n a ≡ k → Passed s.tasks (length (r.records (view_of s))) k
-  passes h = record { free = λ x e. (admission x.task x.object (h ∙ e)).free; there = λ x e. (admission x.task x.object (h ∙ e)).there }
+  pub passes : {k : Result Admitted ℤ} → k ≡ coded (check_of r s z n a) → Passed s.tasks (length (r.records (view_of s))) k
+  passes {k} h = record { free = λ x e. (admitted x e).free; there = λ x e. (admitted x e).there }
+    where
+      admitted : (x : Admitted) → k ≡ Ok x → Admission x.task x.object
+      admitted x e = admission x.task x.object (was_admitted (check_of r s z n a) x (sym h ∙ e))

@@ -62,6 +62,11 @@ checked_by (Some c) o (Ok x) = cond (admitted (pattern_of x.vector o) c.domain) 
 abbrev pub check_of : {C R : Type 0} → Room C R → State → ℤ → ℤ → Act C → Result Admitted Refusal
 check_of r s z n a = checked (check r (view_of s) (no z) (no n) a) (no z) (no n)
 
+-- a refusal by its code
+abbrev pub coded : Result Admitted Refusal → Result Admitted ℤ
+coded (Ok x) = Ok x
+coded (Refused e) = Refused (number_of e)
+
 -- ---- what a call on the caller's level gives: a refusal, or the levels after it
 abbrev pub given_by : Code → Levels → Result Levels Refusal
 given_by ok x = Ok x

@@ -3,7 +3,7 @@ ghost use Rattle.std.specs.Prelude.{◌≡◌};
 ghost use Rattle.model.specs.State.{no};
 ghost use Rattle.kernel.specs.View.{view_of};
 ghost use Rattle.kernel.specs.Valid.{Valid};
-ghost use Rattle.kernel.specs.Inside.{caller_in, checked_by};
+ghost use Rattle.kernel.specs.Inside.{caller_in, checked_by, coded};
 
 use crate::state::State;
 use access::domain::running;
@@ -12,6 +12,13 @@ use access::vector::Operation;
 use itron::error::Error;
 use model::check::{Admitted, Target};
 use tasks::wait::Caller;
+
+// What the checks found, a refusal by its code.
+pub(crate) fn coded(check: Result<Admitted, Error>) -> Result<Admitted, i32>
+    ensures { result ≡ coded check }
+{
+    check.map_err(i32::from)
+}
 
 impl State {
     // A registered ready task of a closed table, with the domain as which it runs.

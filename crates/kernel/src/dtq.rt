@@ -13,9 +13,10 @@ ghost use Rattle.dataqueue.specs.View.{info_of};
 ghost use Rattle.kernel.specs.View.{view_of};
 ghost use Rattle.kernel.specs.Valid.{Valid};
 ghost use Rattle.kernel.specs.Answers.{answered};
-ghost use Rattle.kernel.specs.Inside.{with_tasks, with_queues, check_of};
+ghost use Rattle.kernel.specs.Inside.{with_tasks, with_queues, check_of, coded};
 ghost use Rattle.kernel.specs.Promises.{Enters, Does, Tells};
 
+use crate::check::coded;
 use crate::state::{Answer, Entered, State};
 use access::vector::Vector;
 use dataqueue::call::{act, operation};
@@ -55,12 +56,12 @@ impl State {
     // What a request does to the tasks and the queues.
     pub(crate) fn queue_effect(self, caller: i32, id: i32, request: QueueRequest) -> Effect<Queues>
         requires { Valid self }
-        ensures { result ≡ acted self.tasks self.queues (act_of request) (check_of room self caller id (act_of request)) }
+        ensures { result ≡ acted self.tasks self.queues (act_of request) (coded (check_of room self caller id (act_of request))) }
     {
         let tasks = self.tasks;
         let queues = self.queues;
         let check = self.check(caller, queues.find(id), operation(request));
-        act(tasks, queues, check, request)
+        act(tasks, queues, coded(check), request)
     }
 
     // A call's effect on the tasks and the data queues.

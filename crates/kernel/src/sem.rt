@@ -12,9 +12,10 @@ ghost use Rattle.semaphore.specs.Effects.{acted};
 ghost use Rattle.kernel.specs.View.{view_of};
 ghost use Rattle.kernel.specs.Valid.{Valid};
 ghost use Rattle.kernel.specs.Answers.{answered};
-ghost use Rattle.kernel.specs.Inside.{with_tasks, with_semaphores, check_of};
+ghost use Rattle.kernel.specs.Inside.{with_tasks, with_semaphores, check_of, coded};
 ghost use Rattle.kernel.specs.Promises.{Enters, Does, Tells};
 
+use crate::check::coded;
 use crate::state::{Answer, Entered, State};
 use access::vector::Vector;
 use itron::error::Error;
@@ -60,12 +61,12 @@ impl State {
         request: SemaphoreRequest,
     ) -> Effect<Semaphores>
         requires { Valid self }
-        ensures { result ≡ acted self.tasks self.semaphores (act_of request) (check_of room self caller id (act_of request)) }
+        ensures { result ≡ acted self.tasks self.semaphores (act_of request) (coded (check_of room self caller id (act_of request))) }
     {
         let tasks = self.tasks;
         let semaphores = self.semaphores;
         let check = self.check(caller, semaphores.find(id), operation(request));
-        act(tasks, semaphores, check, request)
+        act(tasks, semaphores, coded(check), request)
     }
 
     // A call's effect on the tasks and the semaphores. The state is made anew: measured, storing into it costs a copy of it more.

@@ -7,6 +7,7 @@ use mathlib.Core.Bool.{Bool, true, false}
 use mathlib.Core.List.{List, []}
 use lib.Dec.{leb}
 use borrow.Author.Tests.{le-leb, lt-leb}
+use Rattle.itron.specs.Codes.{number_of}
 use Rattle.itron.specs.declared.error.Error.TheVariants.{Qovr as e_qovr}
 use Rattle.model.specs.Lists.{put}
 use Rattle.model.specs.State.{TaskEntry, Waiter, place}
@@ -68,7 +69,7 @@ module _ {t : Tasks} {s : Semaphores} (ht : TasksHeld.Held t) (h : Held s) (k : 
           let g : b ≡ full (sem_in xs (suc k)) = sym f ∙ ap full is in
           λ i. effect_as es (signal_by ws xs (suc k) (sym e i) (g i))
 
-      pub signal_full_lem : x.max ≤ x.count → refused_with t s e_qovr ≡ effect_as es (on_signal es ws xs (suc k))
+      pub signal_full_lem : x.max ≤ x.count → refused_with t s (number_of e_qovr) ≡ effect_as es (on_signal es ws xs (suc k))
       signal_full_lem l = refuses_by sems_as effect ht h.form e_qovr ∙ signals true (le-leb x.max x.count l)
 
       pub signal_counts_lem : x.count < x.max → done_with t (sems_as (put xs (suc k) (with_count x (x.count + 1)))) 0 ≡ effect_as es (on_signal es ws xs (suc k))

@@ -1,6 +1,5 @@
 -- What a request of a semaphore gives, as the program gives it. Definitions only.
-use Rattle.std.specs.Prelude.{List, Result}
-use Rattle.itron.specs.declared.error.Error.{Error as Refusal}
+use Rattle.std.specs.Prelude.{List, ℤ, Result}
 use Rattle.model.specs.State.{TaskEntry}
 use Rattle.model.specs.declared.sem.Semaphore.{Semaphore}
 use Rattle.model.specs.declared.sem.SemaphoreCall.{SemaphoreCall}
@@ -20,5 +19,5 @@ abbrev pub effect_as : List TaskEntry → Model.Effect Semaphore → Effect Sema
 effect_as = OfAnyKind.effect_as sems_as
 
 -- what the checks refuse, or what the act does
-abbrev pub acted : Tasks → Semaphores → Act SemaphoreCall → Result Admitted Refusal → Effect Semaphores
+abbrev pub acted : Tasks → Semaphores → Act SemaphoreCall → Result Admitted ℤ → Effect Semaphores
 acted = OfAnyKind.acted room sems_as sems_of

@@ -12,8 +12,7 @@ ghost use Rattle.semaphore.specs.Effects.{acted, effect_as};
 
 use crate::state::Semaphores;
 use access::vector::Operation;
-use itron::code::E_OK;
-use itron::error::Error;
+use itron::code::{E_OK, E_QOVR};
 use model::check::Admitted;
 use model::sem::{SemaphoreCall, SemaphoreRequest};
 use model::{Info, Patience, Reply, Side, attribute};
@@ -34,7 +33,7 @@ pub(crate) fn signal(tasks: Tasks, semaphores: Semaphores, object: usize) -> Eff
         return Effect::ended(tasks.wake(first.task, 0, 0), semaphores);
     }
     if semaphore.count >= semaphore.max {
-        return Effect::refused(tasks, semaphores, Error::Qovr);
+        return Effect::refused(tasks, semaphores, E_QOVR);
     }
     semaphore.count += 1;
     Effect::done(tasks, semaphores.put(object, semaphore), 0)
@@ -121,7 +120,7 @@ pub fn operation(request: SemaphoreRequest) -> Operation
 pub fn act(
     tasks: Tasks,
     semaphores: Semaphores,
-    check: Result<Admitted, Error>,
+    check: Result<Admitted, i32>,
     request: SemaphoreRequest,
 ) -> Effect<Semaphores>
     requires { TasksHeld.Held tasks × Held semaphores × Passed tasks (length (sems_of semaphores)) check }
@@ -129,7 +128,7 @@ pub fn act(
 {
     let Admitted { task, object } = match check {
         Ok(admitted) => admitted,
-        Err(error) => return Effect::refused(tasks, semaphores, error),
+        Err(code) => return Effect::refused(tasks, semaphores, code),
     };
     match request {
         SemaphoreRequest::Own(call) => own(tasks, semaphores, task, object, call),

@@ -4,7 +4,7 @@ use native.Mathlib.Omega.{arith}
 use native.Mathlib.Numerals.{add-one}
 use mathlib.Core.Path.{◌≡◌, refl, sym, ap, ◌∙◌}
 use mathlib.Core.Logic.{◌≢◌}
-use mathlib.Core.Bool.{Bool, true, false, not}
+use mathlib.Core.Bool.{Bool, true, false, cond, not}
 use mathlib.Core.List.{List, [], ◌∷◌, ◌++◌, map, append-nil}
 use lib.Dec.{eqb}
 use lib.ListN.{length, get_or, take, length-append}
@@ -40,7 +40,7 @@ module _ (t i : ℕ) (o : List ℕ) (h : i < length o) where
   next : without t (take (i + 1) o) ≡ without t (take i o) ++ without t (get_or o i 0 ∷ [])
   next = ap (λ (n : ℕ). without t (take n o)) (add-one i) ∙ ap (without t) (take-suc o i 0 h) ∙ keep_append (not_index t) (take i o) (get_or o i 0 ∷ [])
 
-  pub without_kept : get_or o i 0 ≢ t → length o ≤ max_tasks → pushed (order_of (without t (take i o))) (get_or o i 0) ≡ order_of (without t (take (i + 1) o))
+  pub without_kept : get_or o i 0 ≢ t → i < max_tasks → pushed (order_of (without t (take i o))) (get_or o i 0) ≡ order_of (without t (take (i + 1) o))
   without_kept n k =
       let f = without_few t i o in
       let e : eqb t (get_or o i 0) ≡ false = eqb_no t (get_or o i 0) (λ q. n (sym q)) in
@@ -50,6 +50,15 @@ module _ (t i : ℕ) (o : List ℕ) (h : i < length o) where
   without_left q =
       let e : eqb t (get_or o i 0) ≡ true = ap (eqb t) q ∙ eqb_same t in
       ap order_of (sym (next ∙ rw e (append-nil (without t (take i o)))))
+
+  -- the two in one
+  pub without_step : i < max_tasks → cond (eqb t (get_or o i 0)) (order_of (without t (take i o))) (pushed (order_of (without t (take i o))) (get_or o i 0)) ≡ order_of (without t (take (i + 1) o))
+  without_step k = go (eqb t (get_or o i 0)) refl
+    where
+      go : (b : Bool) → eqb t (get_or o i 0) ≡ b
+          → cond b (order_of (without t (take i o))) (pushed (order_of (without t (take i o))) (get_or o i 0)) ≡ order_of (without t (take (i + 1) o))
+      go true e = without_left (sym (eq_of t (get_or o i 0) e))
+      go false e = without_kept (λ q. ne_of t (get_or o i 0) e (sym q)) k
 
 -- ---- without a task: its index is gone from the order as its number is from those who wait
 pub eqb_suc : (m n : ℕ) → eqb m n ≡ eqb (suc m) (suc n)

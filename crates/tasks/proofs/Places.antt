@@ -1,12 +1,21 @@
 -- What a task does: whether it is ready, and where it waits. Assumes nothing.
-use Prim.Native.Nat.{ℕ}
+use Prim.Native.Nat.{ℕ, suc}
 use mathlib.Core.Path.{◌≡◌, refl}
 use mathlib.Core.Bool.{false}
 use mathlib.Core.Logic.{◌≢◌}
+use lib.Dec.{eqb}
+use Rattle.model.specs.State.{place, side_number, same_place}
+use Rattle.model.specs.declared.Side.{Side}
+use Rattle.model.proofs.Lists.{eqb_same}
 use Rattle.tasks.specs.declared.task.Wait.{Wait}
 use Rattle.tasks.specs.declared.task.Wait.TheVariants.{Ready, OnSem, Receiving, Sending}
 use Rattle.tasks.specs.View.{waiter_of}
 use Rattle.tasks.specs.Held.{is_ready}
+use Rattle.tasks.proofs.Orders.{eqb_suc}
+
+-- ---- whether it is the place with this side and this index
+pub same_side_lem : (d e : Side) (o k : ℕ) → side_number d ≡ side_number e → eqb o k ≡ same_place (place d (suc o)) (place e (suc k))
+same_side_lem d e o k h = rw (h, eqb_same (side_number e)) (eqb_suc o k)
 
 -- ---- whether it is ready
 pub busy : (w : Wait) → w ≢ Ready → is_ready w ≡ false

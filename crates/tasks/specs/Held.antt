@@ -1,11 +1,10 @@
 -- What every function on the tasks asks of them and keeps. Definitions only.
-use Rattle.std.specs.Prelude.{ℕ, suc, ◌≤◌, ◌<◌, ◌≡◌, Bool, true, false, List, length}
+use Rattle.std.specs.Prelude.{ℕ, suc, ◌≤◌, ◌<◌, ◌≡◌, ℤ, Bool, true, false, List, length}
 use Rattle.itron.specs.Limits.{max_tasks}
 use Rattle.model.specs.State.{TaskEntry, Waiter}
 use Rattle.model.specs.Waits.{absent}
 use Rattle.model.specs.Conditions.{WaitsFit}
 use Rattle.std.specs.Prelude.{Result, Ok}
-use Rattle.itron.specs.declared.error.Error.{Error as Refusal}
 use Rattle.model.specs.declared.check.Admitted.{Admitted}
 use Rattle.tasks.specs.declared.task.Wait.{Wait}
 use Rattle.tasks.specs.declared.task.Wait.TheVariants.{Ready, OnSem, Receiving, Sending}
@@ -32,6 +31,6 @@ pub record Free (es : List TaskEntry) (ws : List Waiter) (task : ℕ) : Type 0 w
   pub free : absent (suc task) ws ≡ true
 
 -- what an effect may take for granted of what the checks found: a caller that is admitted is a ready task, and its object is one of so many
-pub record Passed (ts : Tasks) (objects : ℕ) (check : Result Admitted Refusal) : Type 0 where
+pub record Passed (ts : Tasks) (objects : ℕ) (check : Result Admitted ℤ) : Type 0 where
   pub free : (a : Admitted) → check ≡ Ok a → Free (entries_of ts) (waits_of ts) a.task
   pub there : (a : Admitted) → check ≡ Ok a → a.object < objects

@@ -6,7 +6,6 @@ use Rattle.tasks.specs.declared.task.Wait.{Wait}
 use Rattle.tasks.specs.declared.task.Wait.TheVariants.{Ready, OnSem, Receiving, Sending}
 use Rattle.tasks.specs.declared.task.Task.{Task}
 use Rattle.tasks.specs.declared.state.Tasks.{Tasks}
-use Rattle.tasks.specs.Orders.{arrivals}
 
 -- what an unused cell holds
 abbrev pub no_task : Task
@@ -35,4 +34,4 @@ entries_of t = map entry_of (take t.count t.entries)
 
 -- all who wait, in the order in which they began to
 unfoldable pub waits_of : Tasks → List Waiter
-waits_of t = map (waiter_at t.entries) (arrivals t.order)
+waits_of t = map (waiter_at t.entries) (take t.order.count t.order.entries)

@@ -5,7 +5,6 @@ ghost use Rattle.tasks.specs.Effects.{done_with, refused_with, ended_with};
 use crate::state::Tasks;
 use crate::wait::Ended;
 use itron::code::E_OK;
-use itron::error::Error;
 use model::{Info, Reply};
 
 // The reply, what a refer tells, and after the call the tasks and the records of the object's kind.
@@ -31,11 +30,11 @@ impl<R> Effect<R> {
     }
 
     // A refusal: its code, with everything as it was.
-    pub fn refused(tasks: Tasks, records: R, error: Error) -> Effect<R>
-        ensures { result ≡ refused_with tasks records error }
+    pub fn refused(tasks: Tasks, records: R, code: i32) -> Effect<R>
+        ensures { result ≡ refused_with tasks records code }
     {
         Effect {
-            reply: Reply::plain(i32::from(error), 0),
+            reply: Reply::plain(code, 0),
             info: Info::NONE,
             tasks,
             records,

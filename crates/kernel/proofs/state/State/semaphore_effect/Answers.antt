@@ -7,11 +7,11 @@ use Rattle.model.specs.Semaphores.{slots, act_of, room}
 use Rattle.model.proofs.Rooms.{own_same}
 use Rattle.semaphore.specs.Effects.{acted}
 use Rattle.kernel.specs.View.{view_of}
-use Rattle.kernel.specs.Inside.{caller_in, checked_by, check_of}
+use Rattle.kernel.specs.Inside.{caller_in, checked_by, check_of, coded}
 use Rattle.kernel.proofs.Back.{tasks_held, sems_held}
 use Rattle.kernel.proofs.Checks.{check_is, passes}
 use Rattle.kernel.proofs.state.State.semaphore_effect.Goals as goal
-use Rattle.kernel.proofs.state.State.semaphore_effect.Goals.{After-check-check}
+use Rattle.kernel.proofs.state.State.semaphore_effect.Goals.{After-check-check, After-coded}
 
 pub find-requires : goal.find-requires
 find-requires c = sems_held c.requires
@@ -28,8 +28,12 @@ checks c =
     ∙ (λ i. checked_by (caller_in m (no a.caller)) (o i) (f i))
     ∙ check_is room m (no a.caller) (no a.id) (act_of a.request) (own_same clear (slots m.waits m.sems (no a.id)) (λ c. refl) (act_of a.request)))
 
+-- the code of a refusal, as `act` takes it
+found : (c : After-coded) → let a = c.args in c.coded.result ≡ coded (check_of room a.self a.caller a.id (act_of a.request))
+found c = c.coded.ensures ∙ ap coded (sym (checks c.before))
+
 pub act-requires : goal.act-requires
-act-requires c = (tasks_held c.requires, sems_held c.requires, passes room c.args.self c.args.caller c.args.id (act_of c.args.request) (checks c))
+act-requires c = (tasks_held c.requires, sems_held c.requires, passes room c.args.self c.args.caller c.args.id (act_of c.args.request) (found c))
 
 pub returns : goal.returns
-returns c = let a = c.args in c.act.ensures ∙ ap (acted a.self.tasks a.self.semaphores (act_of a.request)) (sym (checks c.before))
+returns c = let a = c.args in c.act.ensures ∙ ap (acted a.self.tasks a.self.semaphores (act_of a.request)) (found c.before)

@@ -1,5 +1,5 @@
 -- `Order::without` meets its contract: the next is kept, or it is the one left out. Assumes nothing.
-use Prim.Native.Nat.{◌≤◌}
+use Prim.Native.Nat.{◌<◌}
 use native.Mathlib.Omega.{arith}
 use mathlib.Core.Path.{ap, ◌∙◌}
 use lib.ListN.{length, get_or}
@@ -24,7 +24,7 @@ loop-task-preserved c =
     let i = c.loop-task.task-index in
     elim c.if-task-left.branch [
       | then-task-left w ↦
-          let l : length o ≤ max_tasks = omega (arith, ap length c.as_slice-all.ensures, length-take a.self.now.count a.self.now.entries, c.requires) in
+          let l : i < max_tasks = omega (arith, ap length c.as_slice-all.ensures, length-take a.self.now.count a.self.now.entries, c.requires, c.loop-task-test.true) in
           w.rest-is ∙ w.push.ensures ∙ ap (λ (r : Order). pushed r (get_or o i 0)) c.loop-task.invariant ∙ without_kept a.left i o c.loop-task-test.true w.if-task-left.true l
       | else-task-left w ↦ w.rest-is ∙ c.loop-task.invariant ∙ without_left a.left i o c.loop-task-test.true w.if-task-left.false
     ]

@@ -1,9 +1,8 @@
 -- `Tasks::first` meets its contract: nobody, somebody. Assumes nothing.
 use native.Mathlib.Omega.{arith}
 use mathlib.Core.Path.{ap, ◌∙◌}
-use Prim.Native.Nat.{ℕ, suc, ◌<◌}
+use Prim.Native.Nat.{ℕ, suc}
 use Rattle.std.specs.Prelude.{Some}
-use Rattle.itron.specs.Limits.{max_tasks}
 use Rattle.model.specs.State.{place}
 use Rattle.tasks.proofs.Firsts.{first_none, first_few, first_found}
 use Rattle.tasks.proofs.state.Tasks.first.Goals as goal
