@@ -29,6 +29,7 @@ fn spaced(text: Line, gap: bool) -> Line
 }
 
 // The text with the line's next byte, given whether a blank stands before that.
+#[tactic(auto, using(crate::proofs::Walks::with_blank, crate::proofs::Walks::with_byte))]
 fn with(text: Line, gap: bool, byte: u8) -> Line
     ensures bytes { take result.count result.bytes ≡ with_byte gap (take text.count text.bytes) byte }
     ensures within { text.count ≤ line_size → result.count ≤ line_size }
