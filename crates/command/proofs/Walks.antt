@@ -1,37 +1,37 @@
 -- One step of a walk over a list, for each definition that recurses over bytes. Assumes nothing.
-use Prim.Native.Nat.{ℕ, suc, ◌+◌, ◌-◌, ◌≤◌, ◌<◌}
+use Prim.Native.Nat.{ℕ, zero, suc, ◌+◌, ◌-◌, ◌≤◌, ◌<◌}
 use mathlib.Core.Path.{◌≡◌, refl, sym, ap, ◌∙◌}
 use mathlib.Core.Bool.{Bool, true, false, cond, not, ◌&&◌}
 use mathlib.Core.List.{List, [], ◌∷◌, ◌++◌}
 use native.Mathlib.Numerals.{add-one}
 use native.Mathlib.Omega.{arith}
 use lib.Dec.{eqb, ltb}
-use Rattle.std.proofs.Common.{Some, None}
+use Rattle.std.proofs.Common.{Some, None, length-take}
 use Rattle.std.proofs.lemmas.Bool.{ltb-false}
 use Rattle.std.proofs.lemmas.List.{take_more_set}
 use Rattle.std.proofs.lemmas.List.Sums.{prefix_len-le-length}
 use lib.ListN.{length, take, drop, set, get_or, drop_of_length-le}
-use lib.Seq.{drop-cons, length-take-le}
+use lib.Seq.{drop-cons, get_or-take, length-take-le}
 use borrow.Author.Tests.{eq-eqb, ne_eqb, le-ltb, lt-ltb}
 use Rattle.std.specs.List.{position, position_or_len, count_by}
 use Rattle.std.specs.Option.{unwrap_or}
 use Rattle.std.specs.Cmp.Lexicographic.{pointwise}
 use Rattle.std.proofs.lemmas.List.{take-take}
 use Rattle.std.proofs.lemmas.List.Recursion.{is_position_or_len, is_count_by}
-use Rattle.command.specs.Lines.{line_size, pushed, gathered_of, without_cr}
+use Rattle.command.specs.Lines.{line_size, pushed, pushed_to, gathered_of, gathered_to, without_cr, without_cr_of, cut}
 use Rattle.command.specs.Texts.{is_blank, spaced, with, text_from, text_of}
 use Rattle.command.specs.Words.{space_at, word_at, spaces, word_count}
+use Rattle.command.specs.declared.line.Line.{Line}
 
 -- the list from a place on begins with the byte there
 pub next : (l : List ℕ) (i : ℕ) → i < length l → drop i l ≡ get_or l i 0 ∷ drop (i + 1) l
 next l i h = rw add-one (drop-cons l i 0 h)
 
 -- one byte more in the first n bytes of an array
-pub pushed_full : (b : List ℕ) (n x : ℕ) → length b ≡ line_size → line_size ≤ n → n ≤ line_size → take n b ≡ pushed (take n b) x
+pub pushed_full : (b : List ℕ) (n x : ℕ) → length b ≡ line_size → line_size ≤ n → take n b ≡ pushed (take n b) x
 unfolding pushed
-pushed_full b n x l h k =
-    let fits : n ≤ length b = omega arith in
-    let e : line_size ≤ length (take n b) = omega (arith, h, length-take-le n b fits) in
+pushed_full b n x l h =
+    let e : line_size ≤ length (take n b) = omega (arith, l, h, length-take n b) in
     sym (ap (λ (t : Bool). cond t (take n b ++ x ∷ []) (take n b)) (le-ltb (length (take n b)) line_size e))
 
 pub pushed_more : (b : List ℕ) (n x : ℕ) → length b ≡ line_size → n < line_size → take (n + 1) (set b n x) ≡ pushed (take n b) x
@@ -66,6 +66,31 @@ cut_cr b n m l e h k f =
     let i : length l - 1 ≡ m = omega arith in
     sym (ap (λ (t : Bool). cond t (take (length l - 1) l) l) (sym (cr_test l) ∙ h) ∙ ap (λ (j : ℕ). take j l) i ∙ ap (take m) e ∙ take-take m n b f)
 
+-- the same of a whole line, whose count lies within its array
+module _ (l : Line) (s : List ℕ) (h : length l.bytes ≡ line_size) (k : l.count ≤ line_size) (e : s ≡ take l.count l.bytes) where
+  last_test : (m : ℕ) → l.count ≡ suc m → pointwise eqb (drop (length s - 1) s) (13 ∷ []) ≡ eqb (get_or l.bytes m 0) 13
+  last_test m n =
+      let i : length s - 1 ≡ m = omega (arith, ap length e, length-take l.count l.bytes, h, k, n) in
+      let j : m < l.count = omega (arith, n) in
+      cr_test s ∙ ap (λ (x : ℕ). eqb x 13) (ap (λ (x : ℕ). get_or s x 0) i ∙ ap (λ (x : List ℕ). get_or x m 0) e ∙ get_or-take l.count l.bytes m 0 j)
+
+  cut_by : (m : ℕ) (t : Bool) → l.count ≡ suc m → pointwise eqb (drop (length s - 1) s) (13 ∷ []) ≡ t → without_cr_of l ≡ cond t (record { bytes = l.bytes; count = m }) l
+  unfolding without_cr_of
+  cut_by m t n p = ap (λ (x : ℕ). cut x l) n ∙ ap (λ (u : Bool). cond u (record { bytes = l.bytes; count = m }) l) (sym (last_test m n) ∙ p)
+
+  pub whole_cr : (m : ℕ) → pointwise eqb (drop (length s - 1) s) (13 ∷ []) ≡ true → m + 1 ≡ length s → record { bytes = l.bytes; count = m } ≡ without_cr_of l
+  whole_cr m p q =
+      let n : l.count ≡ suc m = omega (arith, ap length e, length-take l.count l.bytes, h, k, q) in
+      sym (cut_by m true n p)
+
+  pub whole_other : pointwise eqb (drop (length s - 1) s) (13 ∷ []) ≡ false → l ≡ without_cr_of l
+  unfolding without_cr_of
+  whole_other p = go l.count refl
+    where
+      go : (n : ℕ) → l.count ≡ n → l ≡ without_cr_of l
+      go zero n = sym (ap (λ (x : ℕ). cut x l) n)
+      go (suc m) n = sym (cut_by m false n p)
+
 -- a line is gathered
 module _ (b : List ℕ) (l : List ℕ) (i : ℕ) where
   gather_by : (t : Bool) → i < length b → eqb (get_or b i 0) 10 ≡ t →
@@ -84,6 +109,25 @@ module _ (b : List ℕ) (l : List ℕ) (i : ℕ) where
   pub gather_stops : length b ≤ i → gathered_of l i (drop i b) ≡ (l, None)
   unfolding gathered_of
   gather_stops h = ap (gathered_of l i) (drop_of_length-le b h)
+
+-- the same of a whole line
+module _ (b : List ℕ) (l : Line) (i : ℕ) where
+  line_by : (t : Bool) → i < length b → eqb (get_or b i 0) 10 ≡ t →
+      gathered_to l (drop i b) ≡ cond t l (gathered_to (pushed_to l (get_or b i 0)) (drop (i + 1) b))
+  unfolding gathered_to
+  line_by t h e =
+      ap (gathered_to l) (next b i h)
+      ∙ ap (λ (u : Bool). cond u l (gathered_to (pushed_to l (get_or b i 0)) (drop (i + 1) b))) e
+
+  pub line_ends : i < length b → get_or b i 0 ≡ 10 → gathered_to l (drop i b) ≡ l
+  line_ends h e = line_by true h (eq-eqb (get_or b i 0) 10 e)
+
+  pub line_goes : i < length b → (get_or b i 0 ≡ 10 → ⊥) → gathered_to l (drop i b) ≡ gathered_to (pushed_to l (get_or b i 0)) (drop (i + 1) b)
+  line_goes h e = line_by false h (ne_eqb (get_or b i 0) 10 e)
+
+  pub line_stops : length b ≤ i → gathered_to l (drop i b) ≡ l
+  unfolding gathered_to
+  line_stops h = ap (gathered_to l) (drop_of_length-le b h)
 
 -- one byte of a line
 module _ (b : List ℕ) (gap : Bool) (t : List ℕ) (i : ℕ) where

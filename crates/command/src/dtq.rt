@@ -1,8 +1,9 @@
 // The lines of data queues: the entry's and the calls'.
 use crate::entry::Entry;
 use crate::flaw::Flaw;
-use crate::numbers::{Numbers, PATTERNS};
+use crate::numbers::Numbers;
 use crate::parse::Command;
+use crate::shape::{PATTERNS, Shape};
 use dataqueue::entry::QueueEntry;
 use model::dtq::{QueueCall, QueueRequest};
 use model::{Patience, Request};
@@ -25,7 +26,7 @@ pub(crate) fn named(word: &[u8], numbers: Numbers) -> Option<Result<Command, Fla
 
 // Domain, attribute and capacity, and the vector if that is given.
 fn entry(numbers: Numbers) -> Result<Command, Flaw> {
-    numbers.counted(3, 3 + PATTERNS)?;
+    numbers.counted(Shape::open(2, PATTERNS))?;
     let entry = QueueEntry {
         domain: numbers.number(1)?,
         attribute: numbers.number(2)?,
@@ -37,7 +38,7 @@ fn entry(numbers: Numbers) -> Result<Command, Flaw> {
 
 // A call with no number of its own.
 fn asked(numbers: Numbers, request: QueueRequest) -> Result<Command, Flaw> {
-    let (task, queue) = numbers.call(2)?;
+    let (task, queue) = numbers.call(0)?;
     Ok(Command::Call(task, Request::Queue(queue, request)))
 }
 
@@ -49,14 +50,14 @@ fn receive(numbers: Numbers, patience: Patience) -> Result<Command, Flaw> {
 fn send<F: FnOnce(u32) -> QueueCall>(numbers: Numbers, call: F) -> Result<Command, Flaw>
     requires { F.IsAlwaysCallable call }
 {
-    let (task, queue) = numbers.call(3)?;
+    let (task, queue) = numbers.call(1)?;
     let request = QueueRequest::Own(call(numbers.number(3)?));
     Ok(Command::Call(task, Request::Queue(queue, request)))
 }
 
 // Each kind has its own request for it.
 fn set_vector(numbers: Numbers) -> Result<Command, Flaw> {
-    let (task, queue) = numbers.call(2 + PATTERNS)?;
+    let (task, queue) = numbers.call(PATTERNS)?;
     let request = QueueRequest::SetVector(numbers.vector(3)?);
     Ok(Command::Call(task, Request::Queue(queue, request)))
 }

@@ -2,6 +2,7 @@
 use crate::flaw::Flaw;
 use crate::numbers::Numbers;
 use crate::parse::Command;
+use crate::shape::Shape;
 use dataqueue::entry::QueueEntry;
 use regions::entry::RegionEntry;
 use semaphore::entry::SemaphoreEntry;
@@ -20,7 +21,7 @@ pub enum Entry {
 
 // A task's entry: its domain, and its priority if that is given.
 pub(crate) fn task(numbers: Numbers) -> Result<Command, Flaw> {
-    numbers.counted(1, 2)?;
+    numbers.counted(Shape::open(0, 1))?;
     let domain = numbers.number(1)?;
     let priority = numbers.optional(2)?.unwrap_or(DEFAULT_PRIORITY);
     Ok(Command::Entry(Entry::Task(domain, priority)))

@@ -1,18 +1,17 @@
 // A line of input while its bytes come in, and a line's text.
 ghost use Rattle.std.specs.Prelude.{◌≡◌, ◌≤◌, [], take, drop, length, eqb};
-ghost use Rattle.command.specs.Lines.{line_size, pushed, gathered_of, without_cr};
+ghost use Rattle.command.specs.Lines.{line_size, pushed, pushed_to, gathered_of, gathered_to, without_cr, without_cr_of};
 
 // One more than the longest line that is read: a full array is a line that is too long.
 pub const SIZE: usize = 256;
 
 const LF: u8 = b'\n';
 
-// Some bytes, in fixed memory, and Copy, as the session that holds a line is.
+// The first `count` of some bytes, in fixed memory, and Copy, as the session that holds a line is. A count beyond the array means all of it.
 #[derive(Clone, Copy)]
 pub struct Line {
-    bytes: [u8; SIZE],
-    count: usize,
-    pub ghost in_range: { count ≤ line_size },
+    pub bytes: [u8; SIZE],
+    pub count: usize,
 }
 
 // The line so far, and the place behind the LF that ended it; None where the block ended first.
@@ -24,7 +23,8 @@ pub struct Gathered {
 
 impl Line {
     pub fn empty() -> Line
-        ensures { take result.count result.bytes ≡ [] }
+        ensures bytes { take result.count result.bytes ≡ [] }
+        ensures count { result.count ≡ 0 }
     {
         Line {
             bytes: [0; SIZE],
@@ -35,7 +35,7 @@ impl Line {
     pub fn as_slice(&self) -> &[u8]
         ensures { result.now ≡ take self.now.count self.now.bytes }
     {
-        &self.bytes[..self.count]
+        &self.bytes[..SIZE.min(self.count)]
     }
 
     pub fn is_empty(self) -> bool
@@ -48,12 +48,14 @@ impl Line {
     pub fn is_full(self) -> bool
         ensures { result ≡ eqb (length (take self.count self.bytes)) line_size }
     {
-        self.count == SIZE
+        SIZE <= self.count
     }
 
     // The line with one byte more; what does not fit is passed over.
     pub fn pushed(mut self, byte: u8) -> Line
-        ensures { take result.count result.bytes ≡ pushed (take self.count self.bytes) byte }
+        ensures bytes { take result.count result.bytes ≡ pushed (take self.count self.bytes) byte }
+        ensures whole { result ≡ pushed_to self byte }
+        ensures within { self.count ≤ line_size → result.count ≤ line_size }
     {
         let at = self.count;
         if SIZE <= at {
@@ -66,7 +68,9 @@ impl Line {
 
     // The line without the CR that stands before its LF.
     pub fn without_cr(mut self) -> Line
-        ensures { take result.count result.bytes ≡ without_cr (take self.count self.bytes) }
+        ensures bytes { take result.count result.bytes ≡ without_cr (take self.count self.bytes) }
+        ensures whole { self.count ≤ line_size → result ≡ without_cr_of self }
+        ensures within { self.count ≤ line_size → result.count ≤ line_size }
     {
         if let Some(before) = self.as_slice().strip_suffix(b"\r") {
             self.count = before.len();
@@ -76,7 +80,8 @@ impl Line {
 
     // Takes bytes of a block from a place on, to the line's LF or the block's end.
     pub fn gathered(self, block: &[u8], from: usize) -> Gathered
-        ensures { (take result.line.count result.line.bytes, result.next) ≡ gathered_of (take self.count self.bytes) from (drop from block.now) }
+        ensures bytes { (take result.line.count result.line.bytes, result.next) ≡ gathered_of (take self.count self.bytes) from (drop from block.now) }
+        ensures whole { result.line ≡ gathered_to self (drop from block.now) }
     {
         let mut line = self;
         for at in from..block.len() {

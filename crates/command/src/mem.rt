@@ -1,8 +1,11 @@
 // The lines of memory regions: the entry's, the verdict's and the hand-out's.
+ghost use Rattle.command.specs.Shapes.{Small, Wide};
+
 use crate::entry::Entry;
 use crate::flaw::Flaw;
-use crate::numbers::{Numbers, PATTERNS};
+use crate::numbers::Numbers;
 use crate::parse::Command;
+use crate::shape::{PATTERNS, Shape};
 use images::pair::Bases;
 use regions::entry::RegionEntry;
 
@@ -32,7 +35,7 @@ pub(crate) fn named(word: &[u8], numbers: Numbers) -> Option<Result<Command, Fla
 
 // Domain, attribute, base and size, and the vector if that is given.
 fn entry(numbers: Numbers) -> Result<Command, Flaw> {
-    numbers.counted(4, 4 + PATTERNS)?;
+    numbers.counted(Shape::open(3, PATTERNS))?;
     let entry = RegionEntry {
         domain: numbers.number(1)?,
         attribute: numbers.number(2)?,
@@ -43,9 +46,16 @@ fn entry(numbers: Numbers) -> Result<Command, Flaw> {
     Ok(Command::Entry(Entry::Region(entry)))
 }
 
+// A domain asks about a base, a size and wishes.
+pub fn probe_shape() -> Shape
+    ensures { Small result }
+{
+    Shape::fixed(1, 3)
+}
+
 // The verdict is no task's call: the line names the domain itself.
 fn probe(numbers: Numbers) -> Result<Command, Flaw> {
-    numbers.counted(4, 4)?;
+    numbers.counted(probe_shape())?;
     Ok(Command::Probe {
         domain: numbers.number(1)?,
         base: numbers.number(2)?,
@@ -55,8 +65,14 @@ fn probe(numbers: Numbers) -> Result<Command, Flaw> {
 }
 
 // A domain asks for an area, base and size, out of flash and out of RAM, each with its base and its length.
+pub fn hand_out_shape() -> Shape
+    ensures { Wide result }
+{
+    Shape::fixed(1, 6)
+}
+
 fn hand_out(numbers: Numbers) -> Result<Command, Flaw> {
-    numbers.counted(7, 7)?;
+    numbers.counted_wide(hand_out_shape())?;
     let domain = numbers.number(1)?;
     let base = numbers.number(2)?;
     let size = numbers.number(3)?;

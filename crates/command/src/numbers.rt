@@ -1,13 +1,12 @@
 // The numbers of a line, each read as its command takes it.
 ghost use Rattle.std.specs.Prelude.{◌≤◌, IfOk};
+ghost use Rattle.command.specs.Shapes.{Small, Wide};
 
 use crate::flaw::Flaw;
 use crate::number::{Number, NumberError, read_number};
+use crate::shape::Shape;
 use crate::word::{count, word};
 use access::vector::Vector;
-
-// The patterns of a vector.
-pub(crate) const PATTERNS: usize = 4;
 
 // The line's text. A word's place says which word it is; the command's is 0, and its numbers' are 1 and on.
 #[derive(Clone, Copy)]
@@ -25,7 +24,18 @@ impl<'a> Numbers<'a> {
     }
 
     // So many numbers are given: the fewest, or with all that may be left out the most.
-    pub(crate) fn counted(self, fewest: usize, most: usize) -> Result<(), Flaw> {
+    pub(crate) fn counted(self, shape: Shape) -> Result<(), Flaw>
+        requires { Small shape }
+    {
+        self.counted_wide(shape)
+    }
+
+    // As counted, for the hand-out alone, which takes more numbers than any other command.
+    pub(crate) fn counted_wide(self, shape: Shape) -> Result<(), Flaw>
+        requires { Wide shape }
+    {
+        let fewest = shape.signed + shape.unsigned;
+        let most = fewest + shape.optional;
         let given = self.given();
         if given == fewest || given == most {
             return Ok(());
@@ -69,9 +79,11 @@ impl<'a> Numbers<'a> {
         })
     }
 
-    // A call on an object has so many numbers; the first two are the calling task's and the object's.
-    pub(crate) fn call(self, count: usize) -> Result<(i32, i32), Flaw> {
-        self.counted(count, count)?;
+    // A call on an object has so many numbers of its own; the calling task's and the object's stand before them.
+    pub(crate) fn call(self, unsigned: usize) -> Result<(i32, i32), Flaw>
+        requires { unsigned ≤ 4 }
+    {
+        self.counted(Shape::call(unsigned))?;
         Ok((self.number(1)?, self.number(2)?))
     }
 

@@ -1,4 +1,7 @@
 // A whole line: its command and its echo.
+ghost use Rattle.std.specs.Prelude.{◌≤◌};
+ghost use Rattle.command.specs.Lines.{line_size};
+
 use crate::flaw::Flaw;
 use crate::line::Line;
 use crate::parse::{Command, parse};
@@ -12,7 +15,9 @@ pub struct Asked {
 }
 
 // What a line asks, given whether an LF ended it: a CR goes only before an LF. An enum of two would be longer than this flag.
-pub fn requested(line: Line, ended: bool) -> Asked {
+pub fn requested(line: Line, ended: bool) -> Asked
+    ensures { result.echo.count ≤ line_size }
+{
     if line.is_full() {
         return Asked {
             command: Some(Err(Flaw::LongLine)),

@@ -1,8 +1,9 @@
 // The lines of semaphores: the entry's and the calls'.
 use crate::entry::Entry;
 use crate::flaw::Flaw;
-use crate::numbers::{Numbers, PATTERNS};
+use crate::numbers::Numbers;
 use crate::parse::Command;
+use crate::shape::{PATTERNS, Shape};
 use model::sem::{SemaphoreCall, SemaphoreRequest};
 use model::{Patience, Request};
 use semaphore::entry::SemaphoreEntry;
@@ -23,7 +24,7 @@ pub(crate) fn named(word: &[u8], numbers: Numbers) -> Option<Result<Command, Fla
 
 // Domain, attribute, start and max, and the vector if that is given. Each kind has its own names for its numbers.
 fn entry(numbers: Numbers) -> Result<Command, Flaw> {
-    numbers.counted(4, 4 + PATTERNS)?;
+    numbers.counted(Shape::open(3, PATTERNS))?;
     let entry = SemaphoreEntry {
         domain: numbers.number(1)?,
         attribute: numbers.number(2)?,
@@ -36,7 +37,7 @@ fn entry(numbers: Numbers) -> Result<Command, Flaw> {
 
 // A call with no number of its own.
 fn asked(numbers: Numbers, request: SemaphoreRequest) -> Result<Command, Flaw> {
-    let (task, semaphore) = numbers.call(2)?;
+    let (task, semaphore) = numbers.call(0)?;
     Ok(Command::Call(task, Request::Semaphore(semaphore, request)))
 }
 
@@ -46,7 +47,7 @@ fn own(numbers: Numbers, call: SemaphoreCall) -> Result<Command, Flaw> {
 
 // Each kind has its own request for it.
 fn set_vector(numbers: Numbers) -> Result<Command, Flaw> {
-    let (task, semaphore) = numbers.call(2 + PATTERNS)?;
+    let (task, semaphore) = numbers.call(PATTERNS)?;
     let request = SemaphoreRequest::SetVector(numbers.vector(3)?);
     Ok(Command::Call(task, Request::Semaphore(semaphore, request)))
 }

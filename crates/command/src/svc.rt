@@ -1,7 +1,10 @@
 // The lines of extended service calls (request T-03).
+ghost use Rattle.command.specs.Shapes.{Small};
+
 use crate::flaw::Flaw;
 use crate::numbers::Numbers;
 use crate::parse::Command;
+use crate::shape::Shape;
 use model::Request;
 use model::svc::ExtendedCall;
 
@@ -15,8 +18,14 @@ pub(crate) fn named(word: &[u8], numbers: Numbers) -> Option<Result<Command, Fla
 }
 
 // The caller is the line's one number: these calls name no object.
+pub fn shape() -> Shape
+    ensures { Small result }
+{
+    Shape::fixed(1, 0)
+}
+
 fn asked(numbers: Numbers, call: ExtendedCall) -> Result<Command, Flaw> {
-    numbers.counted(1, 1)?;
+    numbers.counted(shape())?;
     let task = numbers.number(1)?;
     Ok(Command::Call(task, Request::Extended(call)))
 }

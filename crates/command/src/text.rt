@@ -1,5 +1,6 @@
 // A line's text: no comment, no blanks at its ends, and one space between two words.
-ghost use Rattle.std.specs.Prelude.{◌≡◌, take};
+ghost use Rattle.std.specs.Prelude.{◌≡◌, ◌≤◌, take};
+ghost use Rattle.command.specs.Lines.{line_size};
 ghost use Rattle.command.specs.Texts.{is_blank, spaced as spaced_of, with as with_byte, text_of as text_of_line};
 
 use crate::line::Line;
@@ -18,7 +19,8 @@ fn is_blank(byte: u8) -> bool
 
 // A gap between two words is one space.
 fn spaced(text: Line, gap: bool) -> Line
-    ensures { take result.count result.bytes ≡ spaced_of gap (take text.count text.bytes) }
+    ensures bytes { take result.count result.bytes ≡ spaced_of gap (take text.count text.bytes) }
+    ensures within { text.count ≤ line_size → result.count ≤ line_size }
 {
     if gap && !text.is_empty() {
         return text.pushed(SPACE);
@@ -27,8 +29,10 @@ fn spaced(text: Line, gap: bool) -> Line
 }
 
 // The text with the line's next byte, given whether a blank stands before that.
+#[tactic(auto, using(crate::proofs::Walks::with_blank, crate::proofs::Walks::with_byte))]
 fn with(text: Line, gap: bool, byte: u8) -> Line
-    ensures { take result.count result.bytes ≡ with_byte gap (take text.count text.bytes) byte }
+    ensures bytes { take result.count result.bytes ≡ with_byte gap (take text.count text.bytes) byte }
+    ensures within { text.count ≤ line_size → result.count ≤ line_size }
 {
     if is_blank(byte) {
         return text;
@@ -38,7 +42,8 @@ fn with(text: Line, gap: bool, byte: u8) -> Line
 
 // The text of a line's bytes.
 pub fn text_of(line: &[u8]) -> Line
-    ensures { take result.count result.bytes ≡ text_of_line line.now }
+    ensures bytes { take result.count result.bytes ≡ text_of_line line.now }
+    ensures within { result.count ≤ line_size }
 {
     let mut text = Line::empty();
     let mut gap = false;
@@ -53,7 +58,9 @@ pub fn text_of(line: &[u8]) -> Line
 }
 
 // What stands for a line that is too long.
-pub(crate) fn long() -> Line {
+pub(crate) fn long() -> Line
+    ensures { result.count ≤ line_size }
+{
     let mut text = Line::empty();
     for &byte in b"(long line)" {
         text = text.pushed(byte);

@@ -1,7 +1,8 @@
 // A command's first word says which numbers follow it.
 use crate::flaw::Flaw;
-use crate::numbers::{Numbers, PATTERNS};
+use crate::numbers::Numbers;
 use crate::parse::Command;
+use crate::shape::{PATTERNS, Shape};
 use crate::{dtq, entry, mem, sem, svc};
 use itron::limit::MIN_UNIT;
 
@@ -31,20 +32,20 @@ pub(crate) fn command_of(word: &[u8], numbers: Numbers) -> Result<Command, Flaw>
 
 // A command with no numbers.
 fn bare(numbers: Numbers, command: Command) -> Result<Command, Flaw> {
-    numbers.counted(0, 0)?;
+    numbers.counted(Shape::fixed(0, 0))?;
     Ok(command)
 }
 
 // A fresh table, and its unit if that is given.
 fn fresh(numbers: Numbers) -> Result<Command, Flaw> {
-    numbers.counted(1, 2)?;
+    numbers.counted(Shape::open(0, 1))?;
     let domains = numbers.number(1)?;
     let unit = numbers.optional(2)?.unwrap_or(MIN_UNIT);
     Ok(Command::Fresh(domains, unit))
 }
 
 fn audit(numbers: Numbers) -> Result<Command, Flaw> {
-    numbers.counted(1 + PATTERNS, 1 + PATTERNS)?;
+    numbers.counted(Shape::fixed(1, PATTERNS))?;
     let domains = numbers.number(1)?;
     let vector = numbers.vector(2)?;
     Ok(Command::Audit(domains, vector))
