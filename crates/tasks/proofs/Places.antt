@@ -2,8 +2,10 @@
 use Prim.Native.Nat.{ℕ, suc}
 use mathlib.Core.Path.{◌≡◌, refl}
 use mathlib.Core.Bool.{false}
-use mathlib.Core.Logic.{◌≢◌}
+use mathlib.Core.List.{[], ◌∷◌}
+use mathlib.Core.Logic.{◌≢◌, ⊎_elim}
 use lib.Dec.{eqb}
+use types.Run.{OneOf}
 use Rattle.model.specs.State.{place, side_number, same_place}
 use Rattle.model.specs.declared.Side.{Side}
 use Rattle.model.proofs.Lists.{eqb_same}
@@ -12,6 +14,10 @@ use Rattle.tasks.specs.declared.task.Wait.TheVariants.{Ready, OnSem, Receiving, 
 use Rattle.tasks.specs.View.{waiter_of}
 use Rattle.tasks.specs.Held.{is_ready}
 use Rattle.tasks.proofs.Orders.{eqb_suc}
+
+-- ---- none of three numbers
+pub three : {X : Type 0} {a b c t : ℕ} → OneOf (a ∷ b ∷ c ∷ []) t → (t ≡ a → ⊥) → (t ≡ b → ⊥) → (t ≡ c → ⊥) → X
+three h x y z = absurd (⊎_elim (λ e. x e) (⊎_elim (λ e. y e) (λ e. z e)) h)
 
 -- ---- whether it is the place with this side and this index
 pub same_side_lem : (d e : Side) (o k : ℕ) → side_number d ≡ side_number e → eqb o k ≡ same_place (place d (suc o)) (place e (suc k))
