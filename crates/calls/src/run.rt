@@ -58,7 +58,7 @@ fn show_answer(rt: &impl Print, call: &[u32], answer: &[u32]) -> io::Result<()> 
 }
 
 impl Run {
-    // The words of the calls, and zeros behind them up to the longest list's; and how many of them a run takes.
+    // The words of the calls, zeros behind them, and how many of them a run takes.
     fn words(self) -> ([u32; LIST_WORDS], usize) {
         let Run(_, calls, tail, _) = self;
         let mut words = [0; LIST_WORDS];
@@ -71,7 +71,7 @@ impl Run {
                 }
             }
         }
-        (words, min(count.saturating_add(tail), LIST_WORDS))
+        (words, count.saturating_add(tail))
     }
 
     // The answers get the first words of a slice.
@@ -79,7 +79,7 @@ impl Run {
         let Run(heading, _, _, room) = self;
         rt.println(heading)?;
         let (words, count) = self.words();
-        let words = &words[..count];
+        let words = &words[..min(count, LIST_WORDS)];
         let mut answers = [UNTOUCHED; ANSWERS];
         let answered = host_run(words, &mut answers[..min(room, ANSWERS)]);
         let made = words
