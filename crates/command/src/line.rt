@@ -82,6 +82,7 @@ impl Line {
     pub fn gathered(self, block: &[u8], from: usize) -> Gathered
         ensures bytes { (take result.line.count result.line.bytes, result.next) ≡ gathered_of (take self.count self.bytes) from (drop from block.now) }
         ensures whole { result.line ≡ gathered_to self (drop from block.now) }
+        ensures within { self.count ≤ line_size → result.line.count ≤ line_size }
     {
         let mut line = self;
         for at in from..block.len() {

@@ -22,7 +22,7 @@ const LONGEST_LINE: usize = PLAIN_LINE
 
 const BLOCK: usize = 2 * LONGEST_LINE;
 
-// A writer that takes all it is given: the failure of a write is kept, and told by the next flush. After it nothing more is written.
+// A writer that takes all it is given: the failure of a write is kept, and told by the next flush; until then nothing more is written.
 #[derive(Drop)]
 pub struct Output<W> {
     to: W,

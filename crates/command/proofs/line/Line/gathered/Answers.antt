@@ -13,6 +13,7 @@ returns-then-byte-eq-LF c =
     record {
       bytes = sym (c.loop-at.invariant.0 ∙ gather_ends b (take l.count l.bytes) i c.loop-at-test.true c.if-byte-eq-LF.true);
       whole = sym (c.loop-at.invariant.1 ∙ line_ends b l i c.loop-at-test.true c.if-byte-eq-LF.true);
+      within = c.loop-at.invariant.2;
     }
 
 pub loop-at-preserved : goal.loop-at-preserved
@@ -24,6 +25,7 @@ loop-at-preserved c =
           ∙ ap (λ (x : List ℕ). gathered_of x (i + 1) (drop (i + 1) b)) (sym c.pushed-line.ensures.bytes),
       c.loop-at.invariant.1 ∙ line_goes b l i c.loop-at-test.true c.if-byte-eq-LF.false
           ∙ ap (λ (x : Line). gathered_to x (drop (i + 1) b)) (sym c.pushed-line.ensures.whole),
+      λ k. c.pushed-line.ensures.within (c.loop-at.invariant.2 k),
     )
 
 pub returns : goal.returns
@@ -34,4 +36,5 @@ returns c =
     record {
       bytes = sym (c.loop-at.invariant.0 ∙ gather_stops b (take l.count l.bytes) i c.loop-at-test.false);
       whole = sym (c.loop-at.invariant.1 ∙ line_stops b l i c.loop-at-test.false);
+      within = c.loop-at.invariant.2;
     }
