@@ -45,8 +45,11 @@ pub(crate) fn write_waiters<W: Write>(
             break;
         }
         write!(out, "{}{task}", separator(k))?;
-        if let Wait::Sending(_, word) = state.task(task).wait() {
-            write!(out, ":{word}")?;
+        // Only a sender brings a word; a look at any other's task would be for nothing.
+        if side == Side::Sending {
+            if let Wait::Sending(_, word) = state.task(task).wait() {
+                write!(out, ":{word}")?;
+            }
         }
     }
     Ok(())
