@@ -44,8 +44,7 @@ pub(crate) fn write_waiters<W: Write>(
         if task == 0 {
             break;
         }
-        out.write_all(separator(k).as_bytes())?;
-        write!(out, "{task}")?;
+        write!(out, "{}{task}", separator(k))?;
         // Only a sender brings a word; a look at any other's task would be for nothing.
         if side == Side::Sending {
             if let Wait::Sending(_, word) = state.task(task).wait() {

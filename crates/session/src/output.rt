@@ -52,35 +52,21 @@ impl<W: Write> Output<W> {
         }
         self.count = 0;
     }
-
-    // Takes a piece that is no longer than the longest line.
-    fn take(&mut self, piece: &[u8]) {
-        if BLOCK.saturating_sub(self.count) < piece.len() {
-            self.send();
-        }
-        let at = BLOCK.min(self.count);
-        let count = piece.len().min(BLOCK - at);
-        self.block[at..at + count].copy_from_slice(&piece[..count]);
-        self.count = at + count;
-        if piece.ends_with(b"\n") && LONGEST_LINE <= self.count {
-            self.send();
-        }
-    }
 }
 
 impl<W: Write> Write for Output<W> {
     fn write(&mut self, bytes: &[u8]) -> io::Result<usize> {
-        let count = bytes.len().min(LONGEST_LINE);
-        self.take(&bytes[..count]);
-        Ok(count)
-    }
-
-    // Measured: by `write` in a loop a dump of many waiters takes 6% more instructions.
-    fn write_all(&mut self, bytes: &[u8]) -> io::Result<()> {
-        for piece in bytes.chunks(LONGEST_LINE) {
-            self.take(piece);
+        if BLOCK <= self.count {
+            self.send();
         }
-        Ok(())
+        let at = BLOCK.min(self.count);
+        let count = bytes.len().min(BLOCK - at);
+        self.block[at..at + count].copy_from_slice(&bytes[..count]);
+        self.count = at + count;
+        if bytes.ends_with(b"\n") && LONGEST_LINE <= self.count {
+            self.send();
+        }
+        Ok(count)
     }
 
     fn flush(&mut self) -> io::Result<()> {
