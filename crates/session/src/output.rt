@@ -6,7 +6,7 @@ use itron::limit::{MAX_CAPACITY, MAX_TASKS};
 use std::io;
 use std::io::Write;
 
-// An echo with its answer, or a line of a dump without its lists, is shorter.
+// What the longest line has besides its lists, and more.
 const PLAIN_LINE: usize = 400;
 
 // A comma and a word of ten digits.
