@@ -69,14 +69,16 @@ impl State {
     }
 
     // The task that waits on that side of an object with k tasks ahead; 0 past the last, as in answers.
-    pub fn waiter(self, side: Side, number: usize, k: usize) -> usize
-        requires { Valid self }
-        ensures { result ≡ get_or (map task_in (wait_queue (view_of self) (place side number))) k 0 }
+    // Measured: within a caller the scan has too few registers, and more steps.
+    #[inline(never)]
+    pub fn waiter(&self, side: Side, number: usize, k: usize) -> usize
+        requires { Valid self.now }
+        ensures { result ≡ get_or (map task_in (wait_queue (view_of self.now) (place side number))) k 0 }
     {
         if number == 0 {
             return 0;
         }
-        let tasks = self.tasks;
+        let tasks = &self.tasks;
         tasks.waiter(side, number - 1, self.by_priority(side, number), k)
     }
 }

@@ -2,12 +2,12 @@
 ghost use Rattle.std.specs.Prelude.{◌≡◌};
 ghost use Rattle.model.specs.State.{same_place};
 ghost use Rattle.tasks.specs.View.{with_wait, waiter_of};
-ghost use Rattle.tasks.specs.Places.{place_of, place_in};
+ghost use Rattle.tasks.specs.Places.{place_in};
 
 use model::Side;
 
 // A side of the object with an index.
-#[derive(Clone, Copy, PartialEq, Eq)]
+#[derive(Clone, Copy)]
 pub(crate) struct Place {
     pub(crate) side: Side,
     pub(crate) object: usize,
@@ -24,27 +24,17 @@ pub enum Wait {
 }
 
 impl Wait {
-    // Where a task that does this waits, if it waits.
-    pub(crate) fn place(self) -> Option<Place>
-        ensures { result ≡ place_of self }
-    {
-        let (side, object) = match self {
-            Wait::Ready => return None,
-            Wait::OnSem(object) => (Side::OnSem, object),
-            Wait::Receiving(object) => (Side::Receiving, object),
-            Wait::Sending(object, _) => (Side::Sending, object),
-        };
-        Some(Place {
-            side,
-            object: usize::from(object),
-        })
-    }
-
     // Whether a task that does this waits at a place.
     pub(crate) fn is_at(self, place: Place) -> bool
         ensures { result ≡ same_place (place_in place) (waiter_of 0 self).place }
     {
-        self.place() == Some(place)
+        let Place { side, object } = place;
+        match (self, side) {
+            (Wait::OnSem(k), Side::OnSem)
+            | (Wait::Receiving(k), Side::Receiving)
+            | (Wait::Sending(k, _), Side::Sending) => usize::from(k) == object,
+            _ => false,
+        }
     }
 
     // The word that a sending task waits with; 0 of any other.

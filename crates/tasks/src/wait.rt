@@ -46,25 +46,20 @@ pub(crate) fn task_number(task: Option<usize>) -> usize
 
 impl Tasks {
     // The index of the one who waits at a place and came with k ahead of it; none if no more than k do.
-    pub(crate) fn arrived(self, place: Place, k: usize) -> Option<usize>
-        requires { Held self }
-        ensures { task_number result ≡ get_or (map task_in (waiters_in (waits_of self) (place_in place))) k 0 }
+    pub(crate) fn arrived(&self, place: Place, k: usize) -> Option<usize>
+        requires { Held self.now }
+        ensures { task_number result ≡ get_or (map task_in (waiters_in (waits_of self.now) (place_in place))) k 0 }
     {
-        // Measured: spares the copies below where nobody waits; a reference to all tasks copies them in any case.
-        if self.order.is_empty() {
-            return None;
-        }
-        let Tasks { entries, order, .. } = self;
         let mut ahead = k;
-        let arrivals = order.as_slice();
+        let arrivals = self.order.as_slice();
         // Tried as a chain of `filter` and `nth`: that its closure's index is in range was not proved.
         for &task in arrivals {
             let task = usize::from(task);
-            if entries[task].wait.is_at(place) {
-                if ahead == 0 {
+            if self.entries[task].wait.is_at(place) {
+                let Some(less) = ahead.checked_sub(1) else {
                     return Some(task);
-                }
-                ahead -= 1;
+                };
+                ahead = less;
             }
         }
         None
@@ -75,10 +70,6 @@ impl Tasks {
         requires { Held self }
         ensures { task_number result ≡ first_task (standing true (entries_of self) (waiters_in (waits_of self) (place_in place))) }
     {
-        // As in `arrived`.
-        if self.order.is_empty() {
-            return None;
-        }
         let Tasks { entries, order, .. } = self;
         let mut lead: Option<Lead> = None;
         let arrivals = order.as_slice();
@@ -106,9 +97,9 @@ impl Tasks {
     }
 
     // The number of the one who stands at a place with k ahead of it, by priority or as they came; 0 if no more than k do.
-    pub fn waiter(self, side: Side, object: usize, by_priority: bool, k: usize) -> usize
-        requires { Held self }
-        ensures { result ≡ get_or (map task_in (standing by_priority (entries_of self) (waiters_in (waits_of self) (place side (suc object))))) k 0 }
+    pub fn waiter(&self, side: Side, object: usize, by_priority: bool, k: usize) -> usize
+        requires { Held self.now }
+        ensures { result ≡ get_or (map task_in (standing by_priority (entries_of self.now) (waiters_in (waits_of self.now) (place side (suc object))))) k 0 }
     {
         let place = Place { side, object };
         if by_priority {
@@ -122,6 +113,10 @@ impl Tasks {
         requires { Held self }
         ensures { task_number result ≡ first_task (standing by_priority (entries_of self) (waiters_in (waits_of self) (place_in place))) }
     {
+        // Measured: spares a copy of the tasks where nobody waits.
+        if self.order.is_empty() {
+            return None;
+        }
         if by_priority {
             return self.most_urgent(place);
         }

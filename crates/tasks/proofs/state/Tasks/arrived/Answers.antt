@@ -3,33 +3,25 @@ use Prim.Native.Nat.{ℕ, suc, ◌+◌}
 use native.Mathlib.Omega.{arith}
 use mathlib.Core.Path.{◌≡◌, sym, ap, ◌∙◌}
 use mathlib.Core.List.{List}
-use lib.ListN.{length, get_or, take}
+use lib.ListN.{length, get_or}
 use Rattle.tasks.specs.View.{waits_of}
 use Rattle.tasks.specs.Places.{place_in}
 use Rattle.tasks.proofs.Back.{index_low}
 use Rattle.tasks.proofs.Waiters.{numbers_from, none_left, pass, found, count_off}
 use Rattle.tasks.proofs.state.Tasks.arrived.Goals as goal
-use Rattle.tasks.proofs.state.Tasks.arrived.Goals.{then-is_at+else-ahead-eq0, else-is_at}
+use Rattle.tasks.proofs.state.Tasks.arrived.Goals.{then-is_at+in-Some, else-is_at}
 
--- nobody waits
-pub returns-then-is_empty : goal.returns-then-is_empty
+pub bounds-self-task : goal.bounds-self-task
+bounds-self-task c = omega (arith, index_low c.requires _ c.as_slice-arrivals.ensures _ c.loop-task-test.true)
+
+pub returns-in_default : goal.returns-in_default
 unfolding waits_of
-returns-then-is_empty c =
+returns-in_default c =
     let a = c.args in
-    let n = numbers_from a.self.entries (place_in a.place) in
-    sym (ap (λ (m : ℕ). get_or (n (take m a.self.order.entries) 0) a.k 0) (c.is_empty.ensures.0 c.if-is_empty.true))
-
-pub bounds-entries-task : goal.bounds-entries-task
-bounds-entries-task c = omega (arith, index_low c.requires _ c.as_slice-arrivals.ensures _ c.loop-task-test.true)
-
-pub returns-then-ahead-eq0 : goal.returns-then-ahead-eq0
-unfolding waits_of
-returns-then-ahead-eq0 c =
-    let a = c.args in
-    let es = a.self.entries in
+    let es = a.self.now.entries in
     let p = place_in a.place in
     let o = c.as_slice-arrivals.result.now in
-    ap suc c.from-task.ensures ∙ sym (found es p o c.loop-task.task-index c.loop-task-test.true (cc) c.loop-task.ahead c.if-ahead-eq0.true) ∙ sym c.loop-task.invariant
+    ap suc c.from-task.ensures ∙ sym (found es p o c.loop-task.task-index c.loop-task-test.true (cc) c.loop-task.ahead (omega (arith, c.in_default.ensures))) ∙ sym c.loop-task.invariant
     ∙ ap (λ (l : List ℕ). get_or (numbers_from es p l 0) a.k 0) c.as_slice-arrivals.ensures
 
 pub loop-task-preserved : goal.loop-task-preserved
@@ -38,12 +30,12 @@ loop-task-preserved c =
     let k = c.loop-task.ahead in
     let o = c.as_slice-arrivals.result.now in
     let i = c.loop-task.task-index in
-    let n = numbers_from a.self.entries (place_in a.place) o in
+    let n = numbers_from a.self.now.entries (place_in a.place) o in
     elim c.if-is_at.branch [
-      | then-is_at+else-ahead-eq0 w ↦
-          c.loop-task.invariant ∙ count_off a.self.entries (place_in a.place) o i c.loop-task-test.true (cc) k w.if-ahead-eq0.false ∙ ap (λ (m : ℕ). get_or (n (i + 1)) m 0) (sym w.ahead-is)
+      | then-is_at+in-Some w ↦
+          c.loop-task.invariant ∙ count_off a.self.now.entries (place_in a.place) o i c.loop-task-test.true (cc) k (λ z. omega (arith, z, w.in-Some.ensures.0)) ∙ ap (λ (m : ℕ). get_or (n (i + 1)) m 0) (sym (w.ahead-is ∙ w.in-Some.ensures.1))
       | else-is_at w ↦
-          let e = pass a.self.entries (place_in a.place) o i c.loop-task-test.true (cc) in
+          let e = pass a.self.now.entries (place_in a.place) o i c.loop-task-test.true (cc) in
           c.loop-task.invariant ∙ (λ j. get_or (e j) (sym w.ahead-is j) 0)
     ]
 
@@ -51,7 +43,7 @@ pub returns : goal.returns
 unfolding waits_of
 returns c =
     let a = c.args in
-    let es = a.self.entries in
+    let es = a.self.now.entries in
     let p = place_in a.place in
     let o = c.as_slice-arrivals.result.now in
     let i : c.loop-task.task-index ≡ length o = omega arith in

@@ -6,7 +6,7 @@ use Rattle.tasks.specs.Leads.{lead, lead_of, leader}
 use Rattle.tasks.specs.Ends.{task_number}
 use native.Mathlib.Omega.{arith}
 use mathlib.Core.Path.{◌≡◌, sym, ap, ◌∙◌}
-use lib.ListN.{take, length, get_or}
+use lib.ListN.{length, get_or}
 use Rattle.tasks.specs.View.{waits_of}
 use Rattle.tasks.specs.Places.{place_in}
 use Rattle.tasks.proofs.Back.{index_low}
@@ -17,14 +17,6 @@ use Rattle.tasks.proofs.state.Tasks.most_urgent.Invariants.{rank_in}
 use Rattle.tasks.proofs.state.Tasks.most_urgent.Goals as goal
 use Rattle.tasks.proofs.state.Tasks.most_urgent.Goals.{then-is_at, else-is_at, After-map}
 use Rattle.std.proofs.lemmas.Grind.{common_steps}
-
--- nobody waits
-pub returns-then-is_empty : goal.returns-then-is_empty
-unfolding waits_of
-returns-then-is_empty c =
-    let a = c.args in
-    let es = a.self.entries in
-    sym (first_ranked c.requires (place_in a.place) ∙ ap (λ (m : ℕ). first_by (rank_in es) (numbers_from es (place_in a.place) (take m a.self.order.entries) 0)) (c.is_empty.ensures.0 c.if-is_empty.true))
 
 pub bounds-entries-task : goal.bounds-entries-task
 bounds-entries-task c = omega (arith, index_low c.requires _ c.as_slice-arrivals.ensures _ c.loop-task-test.true)
