@@ -69,7 +69,7 @@ impl State {
     }
 
     // The task that waits on that side of an object with k tasks ahead; 0 past the last, as in answers.
-    // Measured: within a caller the scan has too few registers, and more steps.
+    // Measured: taken into its caller, it has an instruction more for each step of the scan.
     #[inline(never)]
     pub fn waiter(&self, side: Side, number: usize, k: usize) -> usize
         requires { Valid self.now }
