@@ -35,28 +35,49 @@ use Rattle.kernel.proofs.Checks.{admits_as, refusal, admission}
 -- ---- a part of the state, P: what its room's effects make of it
 pub record Part {C R : Type 0} (r : Room C R) (P : Type 0) (s : State) : Type 0 where
   -- what an act does, by what its checks found; the answer that this makes
-  pub acted : Act C → Result Admitted ℤ → Effect P
+  pub acted : Act C → Result Admitted Refusal → Effect P
   pub answer : Effect P → Answer
   -- a refusal leaves everything as it was; an effect is the rules' effect
+  pub refused : (a : Act C) (e : Refusal) → answer (acted a (Refused e)) ≡ answered (plain (number_of e) 0) no_info s
+  pub does : (a : Act C) (t o : ℕ) → answer (acted a (admits_as t o)) ≡ answer_of (on_records r (view_of s) (act_on r (view_of s).fixed.tasks (view_of s).waits (r.records (view_of s)) (suc t) (suc o) a))
+
+-- the same where the act takes a refusal by its code
+pub record CodedPart {C R : Type 0} (r : Room C R) (P : Type 0) (s : State) : Type 0 where
+  pub acted : Act C → Result Admitted ℤ → Effect P
+  pub answer : Effect P → Answer
   pub refused : (a : Act C) (d : ℤ) → answer (acted a (Refused d)) ≡ answered (plain d 0) no_info s
   pub does : (a : Act C) (t o : ℕ) → answer (acted a (coded (admits_as t o))) ≡ answer_of (on_records r (view_of s) (act_on r (view_of s).fixed.tasks (view_of s).waits (r.records (view_of s)) (suc t) (suc o) a))
 
+abbrev pub by_code : {C R : Type 0} {r : Room C R} {P : Type 0} {s : State} → CodedPart r P s → Part r P s
+by_code p = record {
+  acted = λ a k. p.acted a (coded k);
+  answer = p.answer;
+  refused = λ a e. p.refused a (number_of e);
+  does = p.does;
+}
+
 module _ {s : State} (v : Valid s) where
-  abbrev pub semaphores : Part Semaphores.room SemaphorePart s
-  semaphores = record {
+  abbrev pub coded_semaphores : CodedPart Semaphores.room SemaphorePart s
+  coded_semaphores = record {
     acted = SemaphoreEffects.acted s.tasks s.semaphores;
     answer = λ e. answered e.reply e.info (with_semaphores (with_tasks s e.tasks) e.records);
     refused = λ a d. refl;
     does = λ a t o. let e = SemaphoreEffects.acted s.tasks s.semaphores a (coded (admits_as t o)) in ap (λ (x : State). answered e.reply e.info (with_semaphores (with_tasks x e.tasks) e.records)) v.form;
   }
 
-  abbrev pub queues : Part Queues.room QueuePart s
-  queues = record {
+  abbrev pub coded_queues : CodedPart Queues.room QueuePart s
+  coded_queues = record {
     acted = QueueEffects.acted s.tasks s.queues;
     answer = λ e. answered e.reply e.info (with_queues (with_tasks s e.tasks) e.records);
     refused = λ a d. refl;
     does = λ a t o. let e = QueueEffects.acted s.tasks s.queues a (coded (admits_as t o)) in ap (λ (x : State). answered e.reply e.info (with_queues (with_tasks x e.tasks) e.records)) v.form;
   }
+
+  abbrev pub semaphores : Part Semaphores.room SemaphorePart s
+  semaphores = by_code coded_semaphores
+
+  abbrev pub queues : Part Queues.room QueuePart s
+  queues = by_code coded_queues
 
 -- ---- a call on an object of a part
 module _ {s : State} (v : Valid s) {C R : Type 0} {r : Room C R} {P : Type 0} (p : Part r P s) (z n : ℤ) (a : Act C) where
@@ -64,16 +85,16 @@ module _ {s : State} (v : Valid s) {C R : Type 0} {r : Room C R} {P : Type 0} (p
   abbrev by : Option Refusal → Answer
   by o = answer_of (act_if (view_of s) (no z) (on_object r n a) o)
 
-  answers : (k : Result Admitted Refusal) → check_of r s z n a ≡ k → p.answer (p.acted a (coded k)) ≡ by ((on_object r n a).check (view_of s) (no z))
+  answers : (k : Result Admitted Refusal) → check_of r s z n a ≡ k → p.answer (p.acted a k) ≡ by ((on_object r n a).check (view_of s) (no z))
   answers (Refused e) h =
-      p.refused a (number_of e) ∙ ap (answered (plain (number_of e) 0) no_info) v.form ∙ ap by (sym (refusal r s z n a e h))
+      p.refused a e ∙ ap (answered (plain (number_of e) 0) no_info) v.form ∙ ap by (sym (refusal r s z n a e h))
   answers (Ok k) h =
       let x = admission r s z n a k.task k.object h in
       let t = sym x.task in
       let o = sym x.object in
       p.does a _ _ ∙ (λ i. answer_of (on_records r (view_of s) (act_on r (view_of s).fixed.tasks (view_of s).waits (r.records (view_of s)) (t i) (o i) a))) ∙ ap by (sym x.found)
 
-  pub on_part : (op : Op) → asks op ≡ on_object r n a → {x : Effect P} {q : Answer} → x ≡ p.acted a (coded (check_of r s z n a)) → q ≡ p.answer x → Does s (call z op) q
+  pub on_part : (op : Op) → asks op ≡ on_object r n a → {x : Effect P} {q : Answer} → x ≡ p.acted a (check_of r s z n a) → q ≡ p.answer x → Does s (call z op) q
   unfolding step
   on_part op h e q =
       promise v (call z op) (q ∙ ap p.answer e ∙ answers (check_of r s z n a) refl ∙ ap (λ (x : Asks). answer_of (act_if (view_of s) (no z) x (x.check (view_of s) (no z)))) (sym h))

@@ -1,4 +1,6 @@
 // A run over an input: bytes come in by blocks, each whole line is made, and the output goes out before the program reads on.
+ghost use Rattle.std.specs.Prelude.{◌≤◌};
+ghost use Rattle.command.specs.Lines.{line_size};
 ghost use Rattle.kernel.specs.Valid.{Valid};
 
 use crate::flaw::write_flaw;
@@ -56,7 +58,8 @@ fn obey<W: Write>(
 impl Session {
     pub fn begin(state: State) -> Session
         requires { Valid state }
-        ensures { Valid result.state }
+        ensures valid { Valid result.state }
+        ensures within { result.line.count ≤ line_size }
     {
         Session {
             state,
@@ -67,7 +70,8 @@ impl Session {
     // Makes the line so far, if it asks for anything.
     fn make<W: Write>(&mut self, out: &mut Output<W>, ended: bool)
         requires { Valid self.old.state }
-        ensures { Valid self.new.state }
+        ensures valid { Valid self.new.state }
+        ensures within { self.new.line.count ≤ line_size }
     {
         let Asked { command, echo } = requested(self.line, ended);
         if let Some(command) = command {
@@ -79,7 +83,8 @@ impl Session {
     // Takes the bytes of a block: each line that ends there is made.
     fn take<W: Write>(&mut self, out: &mut Output<W>, block: &[u8])
         requires { Valid self.old.state }
-        ensures { Valid self.new.state }
+        ensures valid { Valid self.new.state }
+        ensures within { self.old.line.count ≤ line_size → self.new.line.count ≤ line_size }
     {
         let mut from = 0;
         // Each round but the last takes a line's LF.
@@ -97,7 +102,8 @@ impl Session {
     // Makes the lines of an input to its end, or up to the block whose answers could not be written; the last line may lack its LF.
     pub fn run<R: Read, W: Write>(&mut self, input: &mut R, out: &mut Output<W>) -> io::Result<()>
         requires { Valid self.old.state }
-        ensures { Valid self.new.state }
+        ensures valid { Valid self.new.state }
+        ensures within { self.old.line.count ≤ line_size → self.new.line.count ≤ line_size }
     {
         let mut block = [0u8; BLOCK];
         // A proved loop has to end, and nothing says that the input does: no run uses so many blocks up.
